@@ -1,0 +1,128 @@
+//! Hashes of chunks, xorbs and shards.
+ghost use Rattle.std.specs.Prelude.{◌≡◌, ◌↔◌, ◌<◌, ℕ, Ok, IsOk, IfOk, length, map, slice_index};
+ghost use Rattle.std.specs.List.{AllPass};
+ghost use Rattle.std.specs.String.{string_bytes};
+ghost use Rattle.hex.specs.Hex.{decode_sized, encode_lower, is_hex_digit};
+ghost use Rattle.xet_types.specs.Names.{Decodes, data_hash, name_of_hashes};
+
+use crate::error::OutOfMemory;
+use hex::FromHex;
+use sha2::{Digest, Sha256};
+use std::alloc::Global;
+use std::fmt;
+use std::marker::Model;
+
+/// The hash of a chunk, a xorb, a shard or a file: 32 bytes, which contracts see as the list of them.
+///
+/// Hashes are ordered by their bytes, and print as 64 lower-case hexadecimal digits. The default is all zeros.
+#[derive(Clone, Copy, PartialEq, Eq, PartialOrd, Ord, Hash, Default)]
+pub struct MerkleHash {
+    bytes: [u8; 32],
+}
+
+impl Model for MerkleHash {
+    ghost use Rattle.std.specs.Prelude.{List, ℕ};
+
+    ghost Value = { List ℕ };
+
+    ghost view = { λ h. h.bytes };
+
+    ghost inverse = { λ bytes. record { bytes = bytes } };
+}
+
+/// The text isn't 64 hexadecimal digits.
+#[derive(Clone, Copy, Debug, PartialEq, Eq)]
+pub struct NotHex;
+
+impl MerkleHash {
+    /// The hash of these 32 bytes.
+    pub fn from_bytes(bytes: [u8; 32]) -> MerkleHash
+        ensures { result ≡ bytes }
+    {
+        MerkleHash { bytes }
+    }
+
+    /// The 32 bytes.
+    pub fn as_bytes(&self) -> &[u8; 32]
+        ensures value { result.now ≡ self.now }
+        ensures length { length self.now ≡ 32 }
+    {
+        &self.bytes
+    }
+
+    /// The 32 bytes as a slice.
+    pub fn as_slice(&self) -> &[u8]
+        ensures value { result.now ≡ self.now }
+        ensures length { length self.now ≡ 32 }
+        ensures bytes { (i : ℕ) → slice_index self.now i < 256 }
+    {
+        let bytes = self.bytes.as_slice();
+        bytes
+    }
+
+    /// The 64 lower-case digits.
+    pub fn hex(&self, alloc: Global) -> Result<String, OutOfMemory>
+        ensures text { IfOk result (λ text. string_bytes text ≡ encode_lower self.now) }
+        ensures reads_back { IfOk result (λ text. decode_sized (string_bytes text) 32 ≡ Ok self.now) }
+    {
+        let text = hex::encode(alloc, self.as_slice())?;
+        Ok(text)
+    }
+
+    /// The hash that 64 hexadecimal digits of either case spell. Takes no memory.
+    pub fn from_hex(text: &str) -> Result<MerkleHash, NotHex>
+        ensures value { Decodes text.now result }
+        ensures digits { IsOk result ↔ ((length text.now ≡ 64) × AllPass is_hex_digit text.now) }
+    {
+        MerkleHash::from_hex_bytes(text.as_bytes())
+    }
+
+    /// The same of a text's bytes.
+    pub fn from_hex_bytes(text: &[u8]) -> Result<MerkleHash, NotHex>
+        ensures value { Decodes text.now result }
+        ensures digits { IsOk result ↔ ((length text.now ≡ 64) × AllPass is_hex_digit text.now) }
+    {
+        match <[u8; 32] as FromHex>::from_hex(text) {
+            Ok(bytes) => Ok(MerkleHash { bytes }),
+            Err(_) => Err(NotHex),
+        }
+    }
+}
+
+impl fmt::Display for MerkleHash {
+    ghost use Rattle.std.specs.Prelude.{Some};
+    ghost use Rattle.hex.specs.Hex.{encode_lower};
+
+    ghost output = { λ h. Some (encode_lower h) };
+
+    fn fmt<W: fmt::Write>(&self, f: &mut fmt::Formatter<W>) -> fmt::Result {
+        let mut digits = [0u8; 64];
+        hex::encode_to_slice(&self.bytes, &mut digits).map_err(|_| fmt::Error)?;
+        let text = std::str::from_utf8(&digits).map_err(|_| fmt::Error)?;
+        f.write_str(text)
+    }
+}
+
+impl fmt::Debug for MerkleHash {
+    fn fmt<W: fmt::Write>(&self, f: &mut fmt::Formatter<W>) -> fmt::Result {
+        fmt::Display::fmt(self, f)
+    }
+}
+
+/// SHA-256 of the bytes (FIPS 180-4): the hash of a chunk. Takes no memory.
+pub fn compute_data_hash(data: &[u8]) -> MerkleHash
+    ensures { result ≡ data_hash data.now }
+{
+    MerkleHash::from_bytes(Sha256::digest(data))
+}
+
+/// SHA-256 of the joined chunk hashes: the name of a xorb. Takes no memory.
+pub fn xorb_hash(chunk_hashes: &[MerkleHash]) -> MerkleHash
+    ensures { result ≡ name_of_hashes chunk_hashes.now }
+{
+    let mut hasher = Sha256::new();
+    for hash in chunk_hashes {
+        hasher.update(hash.as_bytes());
+    }
+    MerkleHash::from_bytes(hasher.finalize())
+}
