@@ -1,0 +1,6 @@
+//! Xorbs: lists of chunks under one hash, what is known of one without its bytes, and their bytes.
+#![tactic(auto)]
+
+pub mod object;
+
+pub use object::{XorbObject, XorbObjectInfoV1};
