@@ -110,10 +110,10 @@ impl fmt::Debug for MerkleHash {
 }
 
 /// SHA-256 of the bytes (FIPS 180-4): the hash of a chunk. Takes no memory.
-pub fn compute_data_hash(data: &[u8]) -> MerkleHash
-    ensures { result ≡ data_hash data.now }
+pub fn compute_data_hash(content: &[u8]) -> MerkleHash
+    ensures { result ≡ data_hash content.now }
 {
-    MerkleHash::from_bytes(Sha256::digest(data))
+    MerkleHash::from_bytes(Sha256::digest(content))
 }
 
 /// SHA-256 of the joined chunk hashes: the name of a xorb. Takes no memory.

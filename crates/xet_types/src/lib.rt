@@ -6,6 +6,7 @@ pub mod hash;
 pub mod list;
 pub mod outside;
 pub mod range;
+pub mod record;
 
 pub use error::{ClientError, FormatFault, OutOfMemory, Refusal};
 pub use hash::{MerkleHash, NotHex, compute_data_hash, xorb_hash};
@@ -14,3 +15,4 @@ pub use outside::Failed;
 pub use outside::sink::{MemorySink, Sink, StdSink};
 pub use outside::source::{MemorySource, Source, StdSource};
 pub use range::{_C, _F, _H, ChunkRange, FileRange, HttpRange, Range};
+pub use record::{XorbRangeDescriptor, XorbReconstructionTerm};

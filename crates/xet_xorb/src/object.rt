@@ -47,7 +47,11 @@ impl Model for XorbObject {
 
 impl XorbObject {
     /// The object of a xorb whose chunks have these hashes and lengths in bytes.
-    pub fn new(alloc: Global, chunk_hashes: Vec<MerkleHash>, lengths: &[u32]) -> Result<XorbObject, OutOfMemory>
+    pub fn new(
+        alloc: Global,
+        chunk_hashes: Vec<MerkleHash>,
+        lengths: &[u32],
+    ) -> Result<XorbObject, OutOfMemory>
         requires lengths { AreLengths lengths.now }
         requires hashes { length chunk_hashes.items ≡ length lengths.now }
         ensures { IfOk result (λ object. object ≡ record { hashes = chunk_hashes.items; lengths = lengths.now }) }

@@ -1,0 +1,81 @@
+//! What a step answers.
+use crate::step::PlanVersion;
+use xet_types::{Items, MerkleHash, Octets, Refusal, XorbRangeDescriptor, XorbReconstructionTerm};
+
+/// A link of a plan: what one fetch brings.
+#[derive(Debug, Drop)]
+pub struct PlannedLink {
+    /// The xorb.
+    pub hash: MerkleHash,
+    /// The link's text.
+    pub url: Octets,
+    /// The chunks that it brings.
+    pub ranges: Items<XorbRangeDescriptor>,
+}
+
+/// Why a cache was of no use to a fetch.
+#[derive(Clone, Copy, Debug, PartialEq, Eq)]
+pub enum CacheRefusal {
+    General,
+    Io,
+    Parse,
+    BadRange,
+    InvalidArguments,
+    OutOfMemory,
+    /// The cache answered what aren't the link's chunks.
+    Disagrees,
+}
+
+/// What a cache did for a fetch.
+#[derive(Clone, Copy, Debug, PartialEq, Eq)]
+pub struct CacheNote {
+    /// How many ranges it answered.
+    pub hits: u32,
+    /// How many ranges were put into it.
+    pub stored: u32,
+    /// Its first refusal.
+    pub refused: Option<CacheRefusal>,
+}
+
+/// The answer of a step.
+#[derive(Debug, Drop)]
+pub enum Reply {
+    /// The xorb's length in bytes with its footer, or 0 where it was stored already.
+    Uploaded(u64),
+    /// The shard was accepted.
+    ShardTaken(bool),
+    /// No stored shard lists the file, or the range begins at or past its end.
+    NoPlan,
+    /// A read is open.
+    Planned {
+        /// Its number.
+        read: u64,
+        version: PlanVersion,
+        /// Where the asked bytes begin in the terms' joined chunks.
+        offset: u64,
+        terms: Items<XorbReconstructionTerm>,
+        /// Numbered from 0.
+        links: Items<PlannedLink>,
+    },
+    /// A link's chunks were taken.
+    Fetched {
+        read: u64,
+        link: u32,
+        /// How many links are left.
+        left: u32,
+        /// The length in bytes of the body that brought them.
+        wire: u64,
+        cache: CacheNote,
+    },
+    /// The read has ended.
+    Finished {
+        read: u64,
+        /// The asked bytes.
+        bytes: Octets,
+        /// The length in bytes of the last body.
+        wire: u64,
+        cache: CacheNote,
+    },
+    /// Nothing was changed.
+    Refused(Refusal),
+}
