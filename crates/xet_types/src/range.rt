@@ -49,3 +49,13 @@ impl<Idx, Kind> Range<Idx, Kind> {
         }
     }
 }
+
+impl<Idx: fmt::Debug, Kind> fmt::Debug for Range<Idx, Kind> {
+    fn fmt<W: fmt::Write>(&self, f: &mut fmt::Formatter<W>) -> fmt::Result {
+        write!(
+            f,
+            "Range {{ start: {:?}, end: {:?} }}",
+            self.start, self.end
+        )
+    }
+}
