@@ -2,5 +2,7 @@
 #![tactic(auto)]
 
 pub mod object;
+pub mod read;
 
 pub use object::{XorbObject, XorbObjectInfoV1};
+pub use read::{ReadXorb, read_xorb};
