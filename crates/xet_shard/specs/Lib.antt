@@ -1,2 +1,4 @@
 pub mod Values
 pub mod Listings
+pub mod ShardBytes
+pub mod ShardReading

@@ -2,5 +2,7 @@
 #![tactic(auto)]
 
 pub mod listing;
+pub mod read;
 
 pub use listing::{ChunkListing, FileListing, Segment, Shard, XorbListing};
+pub use read::read_shard;
