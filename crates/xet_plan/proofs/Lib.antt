@@ -1,0 +1,16 @@
+pub mod Lay
+pub mod Cuts
+pub mod SoFar
+pub mod Order
+pub mod Merging
+pub mod Grouping
+pub mod CutRuns
+pub mod Kept
+pub mod PlanOk
+pub mod Fewest
+pub mod Source
+pub mod Least
+pub mod Window
+pub mod Bytes
+pub mod Unique
+pub mod PlanLaws

@@ -1,0 +1,46 @@
+use Rattle.std.proofs.Common.{◌≡◌, ◌∙◌, ◌+◌, ◌<◌, ◌∷◌, [], drop, arith}
+use Rattle.std.proofs.lemmas.List.{drop_all}
+use Rattle.xet_plan.specs.Places.{interval}
+use Rattle.xet_plan.proofs.Order.{all_push}
+use Rattle.xet_plan.proofs.SoFar.{so_far_skip, so_far_take, so_far_all, drop_read, meets-no, meets-yes}
+use Rattle.xet_plan.proofs.planner.cuts_of.Goals as goal
+
+pub loop-segment-preserved-then-max-min : goal.loop-segment-preserved-then-max-min
+loop-segment-preserved-then-max-min g c =
+    let xs = c.args.segments.now in
+    let i = c.loop-segment.segment-index in
+    let s = c.segment-item.result in
+    let more : drop i xs ≡ s ∷ drop (i + 1) xs = drop_read xs i s (omega arith) c.segment-item.is in (
+      omega arith,
+      c.loop-segment.invariant.1,
+      c.loop-segment.invariant.2,
+      λ known told.
+          rw c.from-at.ensures
+          (so_far_skip known (interval c.args.start c.args.end) xs c.loop-segment.at s (drop (i + 1) xs) c.loop-segment.cuts.items
+          (meets-no c.args.start c.args.end c.loop-segment.at s.unpacked_segment_bytes (omega arith))
+          (rw more at (c.loop-segment.invariant.3 known told))),
+      c.loop-segment.invariant.4,
+    )
+
+pub loop-segment-preserved : goal.loop-segment-preserved
+loop-segment-preserved g c =
+    let xs = c.args.segments.now in
+    let i = c.loop-segment.segment-index in
+    let s = c.segment-item.result in
+    let more : drop i xs ≡ s ∷ drop (i + 1) xs = drop_read xs i s (omega arith) c.segment-item.is in (
+      omega arith,
+      c.cut_of.ensures.stays ∙ c.loop-segment.invariant.1,
+      omega (arith, c.cut_of.ensures.cause.later, c.loop-segment.invariant.2),
+      λ known told.
+          let r = c.in_ok-cut.ensures.answer known (c.loop-segment.invariant.1 ∙ told) in
+          rw (c.from-at.ensures, c.in_ok-push.ensures.items)
+          (so_far_take known (interval c.args.start c.args.end) xs c.loop-segment.at s (drop (i + 1) xs) c.loop-segment.cuts.items c.in_ok-cut.cut
+          (meets-yes c.args.start c.args.end c.loop-segment.at s.unpacked_segment_bytes (omega arith)) r.0 r.1
+          (rw more at (c.loop-segment.invariant.3 known told))),
+      rw c.in_ok-push.ensures.items (all_push (λ x. x.start < x.end) c.loop-segment.cuts.items c.in_ok-cut.cut c.loop-segment.invariant.4 c.in_ok-cut.ensures.nonempty),
+    )
+
+pub returns-clause-answer : goal.returns-clause-answer
+returns-clause-answer g c = λ known told.
+    let none : drop c.loop-segment.segment-index c.args.segments.now ≡ [] = drop_all c.loop-segment.segment-index c.args.segments.now (omega arith) in
+    so_far_all known (interval c.args.start c.args.end) c.args.segments.now c.loop-segment.at c.loop-segment.cuts.items (rw none at (c.loop-segment.invariant.3 known told))

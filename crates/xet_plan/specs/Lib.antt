@@ -1,0 +1,11 @@
+pub mod Places
+pub mod MetChunks
+pub mod Runs
+pub mod Footers
+pub mod Cuts
+pub mod Merging
+pub mod Groups
+pub mod Least
+pub mod FileBytes
+pub mod Plans
+pub mod Answers

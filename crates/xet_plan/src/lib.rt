@@ -1,0 +1,13 @@
+//! Which chunks a range of a file needs, and where they lie in their xorbs.
+#![tactic(auto)]
+
+pub mod footers;
+pub mod groups;
+pub mod place;
+pub mod planner;
+pub mod runs;
+
+pub use footers::Footers;
+pub use groups::group;
+pub use planner::{Plan, compute_reconstruction_ranges};
+pub use runs::MergedRange;
