@@ -168,9 +168,10 @@ pub fn cut_of<F: Footers>(
     ensures stays { F.told footers.new ≡ F.told footers.old }
     ensures cause { FailsOnlyByFault (F.faults footers.old) (F.faults footers.new) result }
 {
-    let object = footers.footer(alloc, &segment.xorb_hash)?;
-    if !is_agreed(&object, segment) {
+    let footer = footers.footer(alloc, &segment.xorb_hash)?;
+    let object: &XorbObject = &footer;
+    if !is_agreed(object, segment) {
         return Err(ClientError::FormatError(FormatFault::Segment));
     }
-    Ok(narrow(&object, segment, place, clip_start, clip_end))
+    Ok(narrow(object, segment, place, clip_start, clip_end))
 }
