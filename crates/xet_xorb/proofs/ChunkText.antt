@@ -120,7 +120,7 @@ each_of_lengths : (chunks : List (List ℕ)) → AllByRecursion IsChunkLength (l
 each_of_lengths [] h = tt
 each_of_lengths (c ∷ cs) h = (h.0, each_of_lengths cs h.1)
 
-lengths_of_each : (chunks : List (List ℕ)) → AllByRecursion IsChunk chunks → AllByRecursion IsChunkLength (lengths_of chunks)
+pub lengths_of_each : (chunks : List (List ℕ)) → AllByRecursion IsChunk chunks → AllByRecursion IsChunkLength (lengths_of chunks)
 lengths_of_each [] h = tt
 lengths_of_each (c ∷ cs) h = (h.0, lengths_of_each cs h.1)
 
@@ -218,7 +218,7 @@ is_done bytes chunks others rest h end k e =
 serialized-cons : (n : ℕ) (ns : List ℕ) → serialized_length (n ∷ ns) ≡ 48 + n + serialized_length ns
 serialized-cons n ns = omega (arith, sum_by-cons (λ (x : ℕ). x) n ns)
 
-serialized-append : (xs ys : List (List ℕ)) → serialized_length (lengths_of (xs ++ ys)) + 48 ≡ serialized_length (lengths_of xs) + serialized_length (lengths_of ys)
+pub serialized-append : (xs ys : List (List ℕ)) → serialized_length (lengths_of (xs ++ ys)) + 48 ≡ serialized_length (lengths_of xs) + serialized_length (lengths_of ys)
 serialized-append [] ys = omega arith
 serialized-append (x ∷ xs) ys = omega (arith, serialized-cons (length x) (lengths_of (xs ++ ys)), serialized-cons (length x) (lengths_of xs), serialized-append xs ys)
 

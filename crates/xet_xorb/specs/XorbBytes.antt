@@ -83,6 +83,13 @@ ReadsXorb bytes (Err OutOfMemory) = Unit {0}
 ReadsXorb bytes (Err (FormatError faults.Xorb)) = (chunks : List (List ℕ)) → IsXorbText bytes chunks → ⊥
 ReadsXorb bytes (Err e) = ⊥
 
+-- The text of a well-formed list is written, with its footer, unless memory runs out; no other list is.
+abbrev pub WritesXorb : List (List ℕ) → Result (List ℕ) ClientError → Type 0
+WritesXorb chunks (Ok bytes) = IsWellFormed chunks × (bytes ≡ xorb_bytes chunks)
+WritesXorb chunks (Err OutOfMemory) = Unit {0}
+WritesXorb chunks (Err (FormatError faults.Xorb)) = IsWellFormed chunks → ⊥
+WritesXorb chunks (Err e) = ⊥
+
 -- the bytes are these chunks, each behind its header, and nothing else
 pub record AreChunksOf (bytes : List ℕ) (chunks : List (List ℕ)) : Type 0 where
   pub each : All IsChunk chunks

@@ -3,6 +3,8 @@
 
 pub mod object;
 pub mod read;
+pub mod write;
 
 pub use object::{XorbObject, XorbObjectInfoV1};
 pub use read::{ReadXorb, read_xorb};
+pub use write::write_xorb;
