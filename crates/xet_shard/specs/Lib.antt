@@ -2,3 +2,5 @@ pub mod Values
 pub mod Listings
 pub mod ShardBytes
 pub mod ShardReading
+pub mod ShardLengths
+pub mod Canonical
