@@ -2,3 +2,4 @@ pub mod Names
 pub mod Faults
 pub mod Outside
 pub mod Ranges
+pub mod Keys

@@ -1,6 +1,6 @@
 -- Ranges: their texts, their conversions, and what reading one answers.
-use Rattle.std.specs.Prelude.{◌≡◌, ◌≤◌, ◌<◌, ◌+◌, ◌-◌, ◌^◌, ◌==◌, ◌++◌, ℕ, List, min, codes, decimal, length, Option, MatchOption, Result, Ok, Err}
-use Rattle.std.specs.List.{before_first, after_first, position_or_len}
+use Rattle.std.specs.Prelude.{◌≡◌, ◌≤◌, ◌<◌, ◌+◌, ◌-◌, ◌^◌, ◌==◌, ◌++◌, ℕ, List, min, codes, decimal, Option, MatchOption, Result, Ok, Err}
+use Rattle.std.specs.List.{Contains, before_first, after_first}
 use Rattle.std.specs.Str.Parse.{IsNumeral, digits_value, without_leading_plus}
 use Rattle.xet_types.specs.declared.range.Range.{Range}
 use Rattle.xet_types.specs.declared.range._F.{_F}
@@ -44,7 +44,7 @@ range_header_text r = codes "bytes=" ++ range_text r
 
 -- a dash stands in the text
 abbrev pub HasDash : List ℕ → Type 0
-HasDash text = position_or_len (λ b. b == 45) text < length text
+HasDash text = Contains text 45
 
 -- what stands before and after the first dash
 abbrev pub before_dash : List ℕ → List ℕ

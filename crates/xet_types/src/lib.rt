@@ -3,12 +3,16 @@
 
 pub mod error;
 pub mod hash;
+pub mod key;
 pub mod list;
 pub mod outside;
 pub mod range;
 
 pub use error::{ClientError, FormatFault, OutOfMemory, Refusal};
 pub use hash::{MerkleHash, NotHex, compute_data_hash, file_hash_with_salt, xorb_hash};
+pub use key::{
+    CAS_ENDPOINT, HexKey, HexMerkleHash, Key, PREFIX_DEFAULT, REQUEST_ID_HEADER, SESSION_ID_HEADER,
+};
 pub use list::{Items, Octets};
 pub use outside::Failed;
 pub use outside::sink::{MemorySink, Sink, StdSink};

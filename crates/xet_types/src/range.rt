@@ -1,7 +1,7 @@
 //! Ranges of chunks, of a file's bytes, and of bytes in a request.
-ghost use Rattle.std.specs.Prelude.{◌≡◌, ◌↔◌, ◌<◌, ◌≤◌, ◌+◌, ◌-◌, codes, min, string_bytes, IsNone, IfSome, IfOk, Some};
+ghost use Rattle.std.specs.Prelude.{◌≡◌, ◌↔◌, ◌<◌, ◌≤◌, ◌+◌, ◌-◌, codes, min, string_bytes, IsNone, IfSome, IfOk, MatchOption, Some};
 ghost use Rattle.std.specs.Fmt.{◌++?◌};
-ghost use Rattle.xet_types.specs.Ranges.{interval, last_place, segment_end, file_range_of, http_range_of, range_header_text, IsJoined, ReadsRange};
+ghost use Rattle.xet_types.specs.Ranges.{interval, last_place, segment_end, file_range_of, http_range_of, range_header_text, IsJoined, HasDash, before_dash, after_dash, ReadsRange};
 
 use crate::error::OutOfMemory;
 use std::alloc::Global;
@@ -167,13 +167,20 @@ pub enum RangeParseError {
     ParseError,
 }
 
+/// What stands on the two sides of the first `-`.
+fn sides(text: &str) -> Option<(&str, &str)>
+    ensures { MatchOption result (¬ HasDash text.now) (λ s. HasDash text.now × (s.0.now ≡ before_dash text.now) × (s.1.now ≡ after_dash text.now)) }
+{
+    text.split_once('-')
+}
+
 impl FromStr for Range<u32, _C> {
     type Err = RangeParseError;
 
     ghost from_str_gives = { ReadsRange 32 };
 
     fn from_str(text: &str) -> Result<ChunkRange, RangeParseError> {
-        let Some((start, end)) = text.split_once('-') else {
+        let Some((start, end)) = sides(text) else {
             return Err(RangeParseError::InvalidFormat);
         };
         let Ok(start) = start.parse::<u32>() else {
@@ -190,7 +197,7 @@ impl FromStr for Range<u32, _C> {
 fn range_of_bytes<Kind>(text: &str) -> Result<Range<u64, Kind>, RangeParseError>
     ensures { ReadsRange 64 text.now result }
 {
-    let Some((start, end)) = text.split_once('-') else {
+    let Some((start, end)) = sides(text) else {
         return Err(RangeParseError::InvalidFormat);
     };
     let Ok(start) = start.parse::<u64>() else {
