@@ -18,3 +18,6 @@ pub use outside::Failed;
 pub use outside::sink::{MemorySink, Sink, StdSink};
 pub use outside::source::{MemorySource, Source, StdSource};
 pub use range::{_C, _F, _H, ChunkRange, FileRange, HttpRange, Range, RangeParseError};
+
+#[cfg(test)]
+mod tests;
