@@ -20,3 +20,6 @@ pub use outside::sink::{MemorySink, Sink, StdSink};
 pub use outside::source::{MemorySource, Source, StdSource};
 pub use range::{_C, _F, _H, ChunkRange, FileRange, HttpRange, Range, RangeParseError};
 pub use record::{XorbRangeDescriptor, XorbReconstructionTerm};
+
+#[cfg(test)]
+mod tests;
