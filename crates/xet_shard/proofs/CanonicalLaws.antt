@@ -135,6 +135,18 @@ module _ {X : Type 0} (hash_of : X → List ℕ) where
       let m = last_entries hash_of xs in
       subst (IsStrictlySortedBy hash_cmp) (sym (keys_are_hashes (entries m) (IsKeyed-from _ (IsKeyed-reverse xs)))) (rising_from_sorted (entries m) (entries_sorted m))
 
+  entries_are_under : (es : List (List ℕ × X)) → IsKeyed es → under_hashes hash_of (map (λ e. e.1) es) ≡ es
+  unfolding IsKeyed
+  entries_are_under [] h = refl
+  entries_are_under (e ∷ es) h = λ i. ((sym h.0) i, e.1) ∷ entries_are_under es h.1 i
+
+  -- at each hash, the last entry with it among all: the first from the back
+  pub last_by_hash-finds : (xs : List X) (q : List ℕ) → find hash_cmp q (under_hashes hash_of (last_by_hash hash_of xs)) ≡ find hash_cmp q (reverse (under_hashes hash_of xs))
+  unfolding last_by_hash
+  last_by_hash-finds xs q =
+      let m = last_entries hash_of xs in
+      ap (find hash_cmp q) (entries_are_under (entries m) (IsKeyed-from _ (IsKeyed-reverse xs))) ∙ sym (get-entries m q) ∙ get-from_entries hash_total (reverse (under_hashes hash_of xs)) q
+
 -- ---- a list in order is as it was
 
 put_first : {X : Type 0} (k : List ℕ) (x : X) (es : List (List ℕ × X)) → AllByRecursion (λ q. hash_cmp k q ≡ Less) (keys es) → put hash_cmp k x es ≡ (k, x) ∷ es
@@ -188,6 +200,10 @@ canonical_of-again s h =
     let files = last_by_hash-again file_hash_of s.files h.files in
     let xorbs = last_by_hash-again xorb_hash_of s.xorbs h.xorbs in
     λ i. record { expiry = (sym h.no_expiry) i; files = files i; xorbs = xorbs i }
+
+-- twice is once
+pub canonical_of-twice : (s : ShardModel) → canonical_of (canonical_of s) ≡ canonical_of s
+canonical_of-twice s = canonical_of-again (canonical_of s) (IsCanonical-canonical_of s)
 
 short_rises : {X : Type 0} (hash_of : X → List ℕ) (xs : List X) → length xs ≤ 1 → IsStrictlySortedBy hash_cmp (map hash_of xs)
 unfolding IsStrictlySortedBy

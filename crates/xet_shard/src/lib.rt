@@ -4,6 +4,8 @@
 pub mod canonical_form;
 pub mod listing;
 pub mod read;
+#[cfg(test)]
+mod tests;
 pub mod write;
 
 pub use canonical_form::{canonical, canonical_bytes, shard_hash};
