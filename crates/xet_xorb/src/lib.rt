@@ -12,3 +12,6 @@ pub use object::{XorbObject, XorbObjectInfoV1};
 pub use read::{ReadXorb, read_xorb};
 pub use segment::append_chunk_segment;
 pub use write::write_xorb;
+
+#[cfg(test)]
+mod tests;
