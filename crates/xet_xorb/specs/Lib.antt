@@ -4,3 +4,4 @@ pub mod Objects
 pub mod ChunkLists
 pub mod XorbBytes
 pub mod Steps
+pub mod JoinedChunks

@@ -1,10 +1,17 @@
 //! Xorbs: lists of chunks under one hash, what is known of one without its bytes, and their bytes.
 #![tactic(auto)]
 
+pub mod deserialize;
 pub mod object;
 pub mod read;
+pub mod segment;
 pub mod write;
 
+pub use deserialize::deserialize_chunks;
 pub use object::{XorbObject, XorbObjectInfoV1};
 pub use read::{ReadXorb, read_xorb};
+pub use segment::append_chunk_segment;
 pub use write::write_xorb;
+
+#[cfg(test)]
+mod tests;

@@ -11,7 +11,7 @@ use xet_bytes::{Cursor, ReadError};
 use xet_types::{ClientError, FormatFault, MerkleHash, compute_data_hash};
 
 /// The length in bytes of a chunk's header.
-pub const HEADER_LENGTH: usize = 8;
+pub(crate) const HEADER_LENGTH: usize = 8;
 
 /// A xorb that was read.
 #[derive(Debug, Drop)]
@@ -47,7 +47,7 @@ fn header(cursor: &mut Cursor<'_>) -> Result<u32, ReadError>
 }
 
 /// The length in bytes of the chunk whose header the bytes begin with.
-fn chunk_length(content: &[u8]) -> Result<usize, ReadError>
+pub(crate) fn chunk_length(content: &[u8]) -> Result<usize, ReadError>
     ensures { ReadsHeader content.now result }
 {
     let mut cursor = Cursor::new(content);
