@@ -10,6 +10,7 @@ use Rattle.xet_xorb.specs.Values.{Xorb}
 use Rattle.xet_xorb.specs.Lengths.{packed_before}
 use Rattle.xet_shard.specs.declared.listing.Segment.{Segment}
 use Rattle.xet_plan.specs.declared.place.Cut.{Cut}
+use Rattle.xet_plan.specs.declared.place.Recent.{Recent}
 use Rattle.xet_plan.specs.Places.{Interval, Placed, Known, agrees, fault, met_segments, first_fault}
 use Rattle.xet_plan.specs.MetChunks.{Chunk, span, kept}
 
@@ -43,6 +44,11 @@ pub record IsReadable (known : Known) (p : Placed) : Type 0 where
   pub is : known p.segment.xorb_hash ≡ Some xorb
   pub agrees : agrees p.segment xorb ≡ true
   pub nonempty : All (λ n. 0 < n) xorb.lengths
+
+-- the recent object, if there is one, is that of its hash
+abbrev pub IsRecent : Known → Option Recent → Type 0
+IsRecent known None = Unit {0}
+IsRecent known (Some recent) = known recent.hash ≡ Some recent.object
 
 -- what a met segment gives
 abbrev pub CutAnswer : Known → Interval → Placed → Result Cut ClientError → Type 0
