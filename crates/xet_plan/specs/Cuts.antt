@@ -2,6 +2,7 @@
 use Rattle.std.specs.Prelude.{◌≡◌, ℕ, ◌<◌, List, [], ◌∷◌, Option, Some, None, Result, Ok, Err, All, true, map, ◌⊎◌}
 use Rattle.std.specs.List.{sum_by, AllByRecursion}
 use Rattle.std.specs.Global.{Vec}
+use Rattle.std.specs.Arc.{arc_value}
 use Rattle.xet_types.specs.declared.error.ClientError.{ClientError}
 use Rattle.xet_types.specs.declared.error.ClientError.TheVariants.{FormatError, InvalidRange, InvalidArguments, FileNotFound, XORBNotFound, PresignedUrlExpirationError, IOError, Other, InvalidKey, CacheError, HttpStatus, OutOfMemory}
 use Rattle.xet_types.specs.declared.error.FormatFault.TheVariants.{Xorb as AtXorb, Segment as AtSegment}
@@ -48,7 +49,7 @@ pub record IsReadable (known : Known) (p : Placed) : Type 0 where
 -- the recent object, if there is one, is that of its hash
 abbrev pub IsRecent : Known → Option Recent → Type 0
 IsRecent known None = Unit {0}
-IsRecent known (Some recent) = known recent.hash ≡ Some recent.object
+IsRecent known (Some recent) = known recent.hash ≡ Some (arc_value recent.object)
 
 -- what a met segment gives
 abbrev pub CutAnswer : Known → Interval → Placed → Result Cut ClientError → Type 0

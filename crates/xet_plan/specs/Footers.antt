@@ -1,5 +1,8 @@
 -- What the footers of xorbs answer.
 use Rattle.std.specs.Prelude.{◌≡◌, ℕ, ◌≤◌, Some, None, Result, Ok, Err, List}
+use Rattle.std.specs.Arc.{arc_value}
+use Rattle.std.specs.Global.{Global}
+use Rattle.std.specs.declared.sync.Arc.{Arc}
 use Rattle.xet_types.specs.Faults.{Rose}
 use Rattle.xet_types.specs.declared.error.ClientError.{ClientError}
 use Rattle.xet_types.specs.declared.error.ClientError.TheVariants.{FormatError, InvalidRange, InvalidArguments, FileNotFound, XORBNotFound, PresignedUrlExpirationError, IOError, Other, InvalidKey, CacheError, HttpStatus, OutOfMemory}
@@ -8,8 +11,8 @@ use Rattle.xet_xorb.specs.Values.{Xorb}
 use Rattle.xet_plan.specs.Places.{Known}
 
 -- an answer over footers that tell their map: the xorb of the hash, or that there is none. The outside may fail
-abbrev pub Gives : Known → List ℕ → Result Xorb ClientError → Type 0
-Gives known h (Ok xorb) = known h ≡ Some xorb
+abbrev pub Gives : Known → List ℕ → Result (Arc Xorb Global) ClientError → Type 0
+Gives known h (Ok xorb) = known h ≡ Some (arc_value xorb)
 Gives known h (Err (XORBNotFound g)) = (g ≡ h) × (known h ≡ None)
 Gives known h (Err IOError) = Unit {0}
 Gives known h (Err OutOfMemory) = Unit {0}

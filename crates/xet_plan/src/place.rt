@@ -9,6 +9,7 @@ ghost use Rattle.xet_plan.specs.Footers.{Gives, IsFooterRefusal, FailsOnlyByFaul
 
 use crate::footers::Footers;
 use std::alloc::Global;
+use std::sync::Arc;
 use xet_shard::Segment;
 use xet_types::{ClientError, FileRange, FormatFault, MerkleHash};
 use xet_xorb::XorbObject;
@@ -182,7 +183,7 @@ pub struct Recent {
     /// The xorb.
     pub hash: MerkleHash,
     /// What is known of it.
-    pub object: XorbObject,
+    pub object: Arc<XorbObject>,
 }
 
 /// The object of the xorb of this hash: the recent one where it is that, else what the footers answer, which are asked once.
@@ -191,7 +192,7 @@ pub fn object_of<F: Footers>(
     hash: &MerkleHash,
     recent: Option<Recent>,
     footers: &mut F,
-) -> Result<XorbObject, ClientError>
+) -> Result<Arc<XorbObject>, ClientError>
     ensures answer { (known : Known) → F.told footers.old ≡ Some known → IsRecent known recent → Gives known hash.now result }
     ensures refusals { IfErr result (IsFooterRefusal hash.now) }
     ensures stays { F.told footers.new ≡ F.told footers.old }

@@ -16,6 +16,7 @@ use xet_shard::{FileListing, Segment};
 use xet_types::{
     ChunkRange, ClientError, FileRange, MerkleHash, OutOfMemory, XorbReconstructionTerm,
 };
+use xet_xorb::XorbObject;
 
 /// What to fetch for a range of a file, and how to put it together. Contracts compare plans by their contents.
 #[derive(Debug, Drop)]
@@ -92,7 +93,8 @@ fn cuts_of<F: Footers>(
             continue;
         }
         let object = object_of(alloc, &segment.xorb_hash, recent, footers)?;
-        let cut = cut_of(&object, segment, place, start, end)?;
+        let shared: &XorbObject = &object;
+        let cut = cut_of(shared, segment, place, start, end)?;
         cuts.push(cut)?;
         recent = Some(Recent {
             hash: segment.xorb_hash,

@@ -1,2 +1,6 @@
 pub mod Values
 pub mod Listings
+pub mod ShardBytes
+pub mod ShardReading
+pub mod ShardLengths
+pub mod Canonical

@@ -1,6 +1,12 @@
 //! Shards: files as lists of segments, and xorbs as lists of chunks.
 #![tactic(auto)]
 
+pub mod canonical_form;
 pub mod listing;
+pub mod read;
+pub mod write;
 
+pub use canonical_form::{canonical, canonical_bytes, shard_hash};
 pub use listing::{ChunkListing, FileListing, Segment, Shard, XorbListing};
+pub use read::read_shard;
+pub use write::write_shard;

@@ -1,9 +1,10 @@
 //! What a shard lists.
-ghost use Rattle.std.specs.Prelude.{◌≡◌, ◌^◌, ◌<◌, length};
+ghost use Rattle.std.specs.Prelude.{◌≡◌, ◌^◌, ◌<◌, length, IfOk};
 ghost use Rattle.xet_shard.specs.Values.{size_of};
 
+use std::alloc::Global;
 use std::marker::Model;
-use xet_types::MerkleHash;
+use xet_types::{MerkleHash, OutOfMemory};
 
 /// A part of a file: a range of a xorb's chunks, and their length.
 #[derive(Clone, Copy, Debug, PartialEq, Eq)]
@@ -59,6 +60,16 @@ impl FileListing {
         }
         size
     }
+
+    /// Another listing of the same.
+    pub fn clone(&self, alloc: Global) -> Result<FileListing, OutOfMemory>
+        ensures { IfOk result (λ f. f ≡ self.now) }
+    {
+        Ok(FileListing {
+            file_hash: self.file_hash,
+            segments: Vec::from_slice(alloc, &self.segments)?,
+        })
+    }
 }
 
 /// A chunk that a shard lists for a xorb.
@@ -98,6 +109,27 @@ impl Model for XorbListing {
     ghost invariant = { λ x. length x.chunks.items < 2 ^ 32 };
 }
 
+impl XorbListing {
+    /// The chunks in order.
+    pub fn chunks(&self) -> &[ChunkListing]
+        ensures value { result.now ≡ self.now.chunks }
+        ensures few { length self.now.chunks < 2 ^ 32 }
+    {
+        &self.chunks
+    }
+
+    /// Another listing of the same.
+    pub fn clone(&self, alloc: Global) -> Result<XorbListing, OutOfMemory>
+        ensures { IfOk result (λ x. x ≡ self.now) }
+    {
+        Ok(XorbListing {
+            xorb_hash: self.xorb_hash,
+            num_bytes: self.num_bytes,
+            chunks: Vec::from_slice(alloc, &self.chunks)?,
+        })
+    }
+}
+
 /// Files and xorbs: fewer than 2^32 of each.
 #[derive(Debug, Drop)]
 pub struct Shard {
@@ -118,4 +150,22 @@ impl Model for Shard {
     ghost view = { λ s. record { expiry = s.expiry; files = s.files.items; xorbs = s.xorbs.items } };
 
     ghost invariant = { λ s. (length s.files.items < 2 ^ 32) × (length s.xorbs.items < 2 ^ 32) };
+}
+
+impl Shard {
+    /// The files in order.
+    pub fn files(&self) -> &[FileListing]
+        ensures value { result.now ≡ self.now.files }
+        ensures few { length self.now.files < 2 ^ 32 }
+    {
+        &self.files
+    }
+
+    /// The xorbs in order.
+    pub fn xorbs(&self) -> &[XorbListing]
+        ensures value { result.now ≡ self.now.xorbs }
+        ensures few { length self.now.xorbs < 2 ^ 32 }
+    {
+        &self.xorbs
+    }
 }

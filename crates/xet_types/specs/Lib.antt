@@ -1,3 +1,6 @@
 pub mod Names
 pub mod Faults
+pub mod Failures
 pub mod Outside
+pub mod Ranges
+pub mod Keys

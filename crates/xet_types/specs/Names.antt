@@ -1,6 +1,7 @@
 -- Names of chunks and xorbs, as lists of bytes.
-use Rattle.std.specs.Prelude.{◌≡◌, ℕ, List, map, Bool, nat_eq, Result, Ok, Err}
+use Rattle.std.specs.Prelude.{◌≡◌, ◌++◌, ℕ, List, map, Bool, nat_eq, Result, Ok, Err}
 use Rattle.std.specs.List.{flat_map}
+use Rattle.std.specs.Int.{w64, to_le_bytes}
 use Rattle.std.specs.Ordering.{nat_cmp}
 use Rattle.std.specs.declared.cmp.Ordering.{Ordering}
 use Rattle.std.specs.Cmp.Lexicographic.{slice_cmp, pointwise}
@@ -22,6 +23,14 @@ name_of_hashes hashes = data_hash (flat_map (λ hash. hash) hashes)
 -- the name of a xorb of these chunks
 abbrev pub xorb_name : List (List ℕ) → List ℕ
 xorb_name chunks = name_of_hashes (map chunk_hash chunks)
+
+-- a chunk of a file: its hash, and its size as 8 bytes, the lowest first
+unfoldable pub sized_chunk : List ℕ × ℕ → List ℕ
+sized_chunk chunk = chunk.0 ++ to_le_bytes w64 chunk.1
+
+-- the name of a file of these chunks under a salt
+abbrev pub file_name : List (List ℕ × ℕ) → List ℕ → List ℕ
+file_name chunks salt = data_hash (flat_map sized_chunk chunks ++ salt)
 
 -- hashes are in order of their bytes
 abbrev pub hash_cmp : List ℕ → List ℕ → Ordering

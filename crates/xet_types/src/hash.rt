@@ -3,7 +3,7 @@ ghost use Rattle.std.specs.Prelude.{◌≡◌, ◌↔◌, ◌<◌, ℕ, Ok, IsOk
 ghost use Rattle.std.specs.List.{AllPass};
 ghost use Rattle.std.specs.String.{string_bytes};
 ghost use Rattle.hex.specs.Hex.{decode_sized, encode_lower, is_hex_digit};
-ghost use Rattle.xet_types.specs.Names.{Decodes, data_hash, name_of_hashes};
+ghost use Rattle.xet_types.specs.Names.{Decodes, data_hash, name_of_hashes, file_name};
 
 use crate::error::OutOfMemory;
 use hex::FromHex;
@@ -124,5 +124,20 @@ pub fn xorb_hash(chunk_hashes: &[MerkleHash]) -> MerkleHash
     for hash in chunk_hashes {
         hasher.update(hash.as_bytes());
     }
+    MerkleHash::from_bytes(hasher.finalize())
+}
+
+/// SHA-256 of each chunk's hash and size, and then of the salt: the name of a file of these chunks.
+///
+/// A size is a number of bytes, written as 8 bytes, the lowest first. Takes no memory.
+pub fn file_hash_with_salt(chunks: &[(MerkleHash, u64)], salt: &[u8; 32]) -> MerkleHash
+    ensures { result ≡ file_name chunks.now salt.now }
+{
+    let mut hasher = Sha256::new();
+    for (hash, size) in chunks {
+        hasher.update(hash.as_bytes());
+        hasher.update(size.to_le_bytes());
+    }
+    hasher.update(salt);
     MerkleHash::from_bytes(hasher.finalize())
 }

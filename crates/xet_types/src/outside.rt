@@ -1,11 +1,12 @@
 //! The objects of the outside, each as a trait with its meaning, a form in memory and an adapter of the real thing.
 //!
 //! Each has a count of faults that never falls; a call answers [`Failed`] only where the count rose in that call.
-ghost use Rattle.std.specs.Prelude.{◌≡◌, ◌≤◌, true, false};
-ghost use Rattle.xet_types.specs.Faults.{Rose};
+ghost use Rattle.std.specs.Prelude.{◌≡◌, ◌≤◌, ◌↔◌, IsTrue, IfOk};
+ghost use Rattle.xet_types.specs.Failures.{IsToFail, one_more, planned_failures};
 
 use crate::error::OutOfMemory;
 use std::alloc::Global;
+use std::marker::Model;
 
 pub mod sink;
 pub mod source;
@@ -14,7 +15,7 @@ pub mod source;
 #[derive(Clone, Copy, Debug, PartialEq, Eq)]
 pub struct Failed;
 
-/// The numbers, from 0, of the calls that are to fail, how many calls came, and how many faults.
+/// The numbers, from 0, of the calls that are to fail, the number of the next call, and how many failed.
 #[derive(Debug, Drop)]
 struct Failing {
     calls: Vec<u64>,
@@ -22,8 +23,18 @@ struct Failing {
     faults: u64,
 }
 
+impl Model for Failing {
+    ghost use Rattle.xet_types.specs.Failures.{Failures};
+
+    ghost Value = { Failures };
+
+    ghost view = { λ f. record { planned = f.calls.items; next = f.next; count = f.faults } };
+}
+
 impl Failing {
-    fn new(alloc: Global, calls: &[u64]) -> Result<Failing, OutOfMemory> {
+    fn new(alloc: Global, calls: &[u64]) -> Result<Failing, OutOfMemory>
+        ensures { IfOk result (λ f. f ≡ planned_failures calls.now) }
+    {
         Ok(Failing {
             calls: Vec::from_slice(alloc, calls)?,
             next: 0,
@@ -33,23 +44,19 @@ impl Failing {
 
     /// Counts a fault.
     fn fault(&mut self)
-        ensures rose { Rose self.old.faults self.new.faults }
-        ensures later { self.old.faults ≤ self.new.faults }
+        ensures after { self.new ≡ record self.old { count = one_more self.old.count } }
+        ensures later { self.old.count ≤ self.new.count }
     {
         self.faults = self.faults.saturating_add(1);
     }
 
-    /// Counts a call, and answers whether it is to fail, which is then counted.
+    /// Counts a call, and answers whether it is to fail.
     fn call(&mut self) -> bool
-        ensures kept { result ≡ false → self.new.faults ≡ self.old.faults }
-        ensures rose { result ≡ true → Rose self.old.faults self.new.faults }
-        ensures later { self.old.faults ≤ self.new.faults }
+        ensures told { IsTrue result ↔ IsToFail self.old }
+        ensures after { self.new ≡ record self.old { next = one_more self.old.next } }
     {
         let fails = self.calls.contains(&self.next);
         self.next = self.next.saturating_add(1);
-        if fails {
-            self.fault();
-        }
         fails
     }
 }

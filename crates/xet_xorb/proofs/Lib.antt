@@ -1,1 +1,4 @@
 pub mod Offsets
+pub mod ChunkText
+pub mod WellFormed
+pub mod FooterText

@@ -1,5 +1,5 @@
 -- The lengths of a xorb's chunks, and where the chunks lie.
-use Rattle.std.specs.Prelude.{◌≡◌, ℕ, ◌+◌, ◌-◌, ◌*◌, ◌^◌, ◌<◌, ◌≤◌, List, [], ◌∷◌, length, take, sum, All}
+use Rattle.std.specs.Prelude.{ℕ, ◌+◌, ◌*◌, ◌^◌, ◌<◌, List, length, take, sum, All}
 
 -- a chunk has 1 to 16,777,215 bytes
 abbrev pub IsChunkLength : ℕ → Type 0

@@ -1,5 +1,5 @@
 -- What is known of a xorb without its bytes.
-use Rattle.std.specs.Prelude.{◌≡◌, ℕ, ◌+◌, ◌-◌, ◌*◌, ◌^◌, ◌<◌, List, [], ◌∷◌, length, slice_index}
+use Rattle.std.specs.Prelude.{◌≡◌, ℕ, ◌+◌, ◌-◌, ◌*◌, ◌<◌, List, [], ◌∷◌, length, slice_index}
 use Rattle.xet_types.specs.Names.{name_of_hashes}
 use Rattle.xet_xorb.specs.declared.object.XorbObject.TheInside.{Inside}
 use Rattle.xet_xorb.specs.Values.{Xorb}

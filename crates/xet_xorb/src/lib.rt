@@ -2,5 +2,9 @@
 #![tactic(auto)]
 
 pub mod object;
+pub mod read;
+pub mod write;
 
 pub use object::{XorbObject, XorbObjectInfoV1};
+pub use read::{ReadXorb, read_xorb};
+pub use write::write_xorb;

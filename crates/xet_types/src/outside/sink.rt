@@ -1,5 +1,5 @@
 //! Where bytes go.
-ghost use Rattle.std.specs.Prelude.{◌≡◌, Some, [], IfOk, ℕ, List, Option, ◌<◌, length};
+ghost use Rattle.std.specs.Prelude.{◌≡◌, Some, [], IfOk, IsErr, ℕ, List, Option, ◌<◌, length};
 ghost use Rattle.std.specs.Io.{WritesAtMost};
 ghost use Rattle.std.specs.Io.KnownBytes.{WriteAppends};
 ghost use Rattle.xet_types.specs.Faults.{HasCause};
@@ -35,11 +35,13 @@ pub struct MemorySink {
 }
 
 impl MemorySink {
-    ghost use Rattle.xet_types.specs.Outside.{taken_of};
+    ghost use Rattle.xet_types.specs.Failures.{planned_failures};
+    ghost use Rattle.xet_types.specs.Outside.{taken_of, sink_failures};
 
     /// A sink without bytes. `failing` has the numbers, from 0, of the calls that are to fail.
     pub fn new(alloc: Global, failing: &[u64]) -> Result<MemorySink, OutOfMemory>
-        ensures { IfOk result (λ s. taken_of s ≡ Some []) }
+        ensures bytes { IfOk result (λ s. taken_of s ≡ Some []) }
+        ensures failures { IfOk result (λ s. sink_failures s ≡ planned_failures failing.now) }
     {
         Ok(MemorySink {
             content: Vec::new(alloc),
@@ -56,14 +58,25 @@ impl MemorySink {
 }
 
 impl Sink for MemorySink {
-    ghost use Rattle.xet_types.specs.Outside.{taken_of};
+    ghost use Rattle.xet_types.specs.Failures.{IsToFail, CallCounted};
+    ghost use Rattle.xet_types.specs.Outside.{taken_of, sink_failures};
 
     ghost taken = { taken_of };
 
-    ghost faults = { λ s. s.failing.faults };
+    ghost faults = { λ s. (sink_failures s).count };
 
-    fn write(&mut self, bytes: &[u8]) -> Result<usize, Failed> {
+    /// It takes the whole piece. It fails where the call is to fail, and otherwise only for want of memory.
+    fn write(&mut self, bytes: &[u8]) -> Result<usize, Failed>
+        ensures bound { WritesAtMost result bytes.now }
+        ensures progress { IfOk result (λ n. 0 < length bytes.now → 0 < n) }
+        ensures bytes { WriteAppends (taken_of self.old) (taken_of self.new) result bytes.now }
+        ensures cause { HasCause (sink_failures self.old).count (sink_failures self.new).count result }
+        ensures fails { IsToFail (sink_failures self.old) → IsErr result }
+        ensures counted { CallCounted (sink_failures self.old) (sink_failures self.new) result }
+        ensures whole { IfOk result (λ n. n ≡ length bytes.now) }
+    {
         if self.failing.call() {
+            self.failing.fault();
             return Err(Failed);
         }
         match self.content.extend_from_slice(bytes) {

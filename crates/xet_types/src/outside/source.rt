@@ -1,5 +1,5 @@
 //! Where bytes come from.
-ghost use Rattle.std.specs.Prelude.{◌≡◌, Some, IfOk, ◌≤◌, ℕ, List, Option, vec_len};
+ghost use Rattle.std.specs.Prelude.{◌≡◌, ◌↔◌, Some, IfOk, IsErr, ◌≤◌, ℕ, List, Option, length, vec_len};
 ghost use Rattle.std.specs.Io.{ReadsAtMost};
 ghost use Rattle.std.specs.Io.KnownBytes.{ReadConsumes};
 ghost use Rattle.xet_types.specs.Faults.{HasCause};
@@ -36,11 +36,13 @@ pub struct MemorySource {
 }
 
 impl MemorySource {
-    ghost use Rattle.xet_types.specs.Outside.{left_of};
+    ghost use Rattle.xet_types.specs.Failures.{planned_failures};
+    ghost use Rattle.xet_types.specs.Outside.{left_of, source_failures};
 
     /// A source of these bytes. `failing` has the numbers, from 0, of the calls that are to fail.
     pub fn new(alloc: Global, content: &[u8], failing: &[u64]) -> Result<MemorySource, OutOfMemory>
-        ensures { IfOk result (λ s. left_of s ≡ Some content.now) }
+        ensures bytes { IfOk result (λ s. left_of s ≡ Some content.now) }
+        ensures failures { IfOk result (λ s. source_failures s ≡ planned_failures failing.now) }
     {
         Ok(MemorySource {
             content: Vec::from_slice(alloc, content)?,
@@ -51,14 +53,24 @@ impl MemorySource {
 }
 
 impl Source for MemorySource {
-    ghost use Rattle.xet_types.specs.Outside.{left_of};
+    ghost use Rattle.xet_types.specs.Failures.{IsToFail, CallCounted};
+    ghost use Rattle.xet_types.specs.Outside.{left_of, source_failures, ReadsAll};
 
     ghost left = { left_of };
 
-    ghost faults = { λ s. s.failing.faults };
+    ghost faults = { λ s. (source_failures s).count };
 
-    fn read(&mut self, into: &mut [u8]) -> Result<usize, Failed> {
+    /// It gives as many bytes as there are, up to the buffer's length, and fails exactly where the call is to fail.
+    fn read(&mut self, into: &mut [u8]) -> Result<usize, Failed>
+        ensures bound { ReadsAtMost result into.new }
+        ensures bytes { ReadConsumes (left_of self.old) (left_of self.new) result into.new }
+        ensures cause { HasCause (source_failures self.old).count (source_failures self.new).count result }
+        ensures fails { IsErr result ↔ IsToFail (source_failures self.old) }
+        ensures counted { CallCounted (source_failures self.old) (source_failures self.new) result }
+        ensures whole { IfOk result (ReadsAll self.old (length into.old)) }
+    {
         if self.failing.call() {
+            self.failing.fault();
             return Err(Failed);
         }
         let rest = &self.content[self.position..];

@@ -1,4 +1,4 @@
-use Rattle.std.proofs.Common.{◌≡◌, refl, Ok, IsOk}
+use Rattle.std.proofs.Common.{refl}
 use Rattle.hex.proofs.HexLemmas.{IsOk-decode_sized}
 use Rattle.xet_types.proofs.hash.MerkleHash.from_hex_bytes.Goals as goal
 

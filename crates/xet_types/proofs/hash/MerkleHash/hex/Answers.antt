@@ -1,6 +1,3 @@
-use Rattle.std.proofs.Common.{◌≡◌, Ok}
-use Rattle.std.specs.String.{string_bytes}
-use Rattle.hex.specs.Hex.{decode_sized}
 use Rattle.hex.proofs.HexLemmas.{decode_sized-encode_lower}
 use Rattle.xet_types.proofs.hash.MerkleHash.hex.Goals as goal
 

@@ -1,9 +1,7 @@
-use Rattle.std.proofs.Common.{◌≡◌, ◌∙◌, ℕ, ◌+◌, ◌*◌, ◌<◌, ◌≤◌, List, [], ◌++◌, length, get_or, drop, sum, sym, ap, subst, arith, refl}
-use Rattle.std.specs.List.{AllByRecursion}
+use Rattle.std.proofs.Common.{◌≡◌, ◌∙◌, ℕ, ◌+◌, ◌*◌, ◌≤◌, List, ◌++◌, length, get_or, drop, sym, ap, subst, arith}
 use Rattle.std.proofs.lemmas.List.{append-nil, drop_all}
 use Rattle.std.proofs.lemmas.List.Elements.{recursion_from_All}
 use Rattle.xet_xorb.specs.Lengths.{AreLengths, IsChunkLength}
-use Rattle.xet_xorb.specs.Values.{Xorb}
 use Rattle.xet_types.specs.Names.{name_of_hashes}
 use Rattle.xet_xorb.specs.Objects.{steps, Rises}
 use Rattle.xet_xorb.proofs.Offsets.{ends, steps-ends, rises-ends, length-ends, ends-header, above_zero}

@@ -1,4 +1,4 @@
-use Rattle.std.proofs.Common.{◌≡◌, ap, sym, ◌∙◌, subst, length}
+use Rattle.std.proofs.Common.{ap, sym, ◌∙◌, subst, length}
 use Rattle.xet_xorb.specs.Values.{Xorb}
 use Rattle.xet_xorb.specs.Lengths.{AreLengths}
 use Rattle.xet_xorb.proofs.Offsets.{length-steps}

@@ -1,0 +1,55 @@
+-- What a script means, line by line.
+use Rattle.std.specs.Prelude.{◌≡◌, ◌≢◌, ℕ, ◌+◌, List, [], ◌∷◌, ◌++◌, length, Result, Ok, Err}
+use Rattle.std.specs.List.{flat_map, AllByRecursion}
+use Rattle.std.specs.Str.Lines.{lines}
+use Rattle.std.specs.Global.{Vec}
+use Rattle.xet_service.specs.declared.step.Step.{Step}
+use Rattle.xet_demo.specs.declared.script.line.Line.{Line}
+use Rattle.xet_demo.specs.declared.script.line.Line.TheVariants.{Passed, Command, Bad}
+use Rattle.xet_demo.specs.declared.script.ScriptError.{ScriptError}
+use Rattle.xet_demo.specs.declared.script.ScriptError.TheVariants.{BadLine, OutOfMemory}
+use Rattle.xet_demo.specs.Lines.{line_of}
+
+-- Lines end with LF, and one CR before it is dropped; the last LF may be missing, and then a CR stays.
+abbrev pub lines_of : List ℕ → List (List ℕ)
+lines_of script = lines script
+
+-- the line is empty, a comment or a command
+abbrev pub IsInside : List ℕ → Type 0
+IsInside text = line_of text ≢ Bad
+
+abbrev pub steps_in : Line → List Step
+steps_in (Command step) = step ∷ []
+steps_in Passed = []
+steps_in Bad = []
+
+-- the steps of a line: one, or none
+abbrev pub steps_of : List ℕ → List Step
+steps_of text = steps_in (line_of text)
+
+-- Each line is inside the grammar, and the steps are those of the lines in their order.
+pub record AreStepsOf (texts : List (List ℕ)) (steps : List Step) : Type 0 where
+  pub inside : AllByRecursion IsInside texts
+  pub steps_are : steps ≡ flat_map steps_of texts
+
+-- Line n, from 1, is the first outside the grammar.
+pub record IsFirstBad (texts : List (List ℕ)) (n : ℕ) : Type 0 where
+  pub before : List (List ℕ)
+  pub bad : List ℕ
+  pub after : List (List ℕ)
+  pub lines_are : texts ≡ before ++ bad ∷ after
+  pub inside : AllByRecursion IsInside before
+  pub outside : line_of bad ≡ Bad
+  pub number : n ≡ length before + 1
+
+-- A script is parsed into the steps of its lines; a line is called bad exactly where it is the first outside.
+abbrev pub Parses : List ℕ → Result (Vec Step) ScriptError → Type 0
+Parses script (Ok v) = AreStepsOf (lines_of script) v.items
+Parses script (Err (BadLine n)) = IsFirstBad (lines_of script) n
+Parses script (Err OutOfMemory) = Unit {0}
+
+-- The steps of the line are added, or the line with this number is outside the grammar.
+abbrev pub AddsStepsOf : List ℕ → ℕ → List Step → List Step → Result (Unit {0}) ScriptError → Type 0
+AddsStepsOf text number old new (Ok done) = IsInside text × (new ≡ old ++ steps_of text)
+AddsStepsOf text number old new (Err (BadLine n)) = (line_of text ≡ Bad) × (n ≡ number)
+AddsStepsOf text number old new (Err OutOfMemory) = Unit {0}

@@ -1,0 +1,6 @@
+//! Runs a script over a chunk store in memory.
+#![tactic(auto)]
+
+pub mod script;
+
+fn main(_rt: HostRuntime) {}

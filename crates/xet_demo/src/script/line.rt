@@ -1,0 +1,169 @@
+//! What a line of a script means.
+ghost use Rattle.std.specs.Prelude.{◌≡◌, IfOk};
+ghost use Rattle.std.specs.List.{list_all};
+ghost use Rattle.std.specs.Char.{is_ascii};
+ghost use Rattle.xet_demo.specs.Words.{parts_of};
+ghost use Rattle.xet_demo.specs.Lines.{act_of, one_word, two_words, words_from, words_line, xorb_act, shard_act, plan_act, fetch_act, ascii_line, line_of};
+
+use super::word::{cut, hash, number, octets, range, small_number};
+use std::alloc::Global;
+use xet_service::{Act, PlanVersion, Step};
+use xet_types::OutOfMemory;
+
+/// What a line means.
+#[derive(Debug, Drop)]
+pub enum Line {
+    /// It is empty or a comment.
+    Passed,
+    Command(Step),
+    /// It is outside the grammar.
+    Bad,
+}
+
+fn xorb(alloc: Global, name: &[u8], content: &[u8]) -> Result<Option<Act>, OutOfMemory>
+    ensures { IfOk result (λ act. act ≡ xorb_act name.now content.now) }
+{
+    let Some(hash) = hash(name) else {
+        return Ok(None);
+    };
+    match octets(alloc, content)? {
+        Some(content) => Ok(Some(Act::UploadXorb { hash, content })),
+        None => Ok(None),
+    }
+}
+
+fn shard(alloc: Global, content: &[u8]) -> Result<Option<Act>, OutOfMemory>
+    ensures { IfOk result (λ act. act ≡ shard_act content.now) }
+{
+    match octets(alloc, content)? {
+        Some(content) => Ok(Some(Act::UploadShard { content })),
+        None => Ok(None),
+    }
+}
+
+fn plan(version: PlanVersion, file: &[u8], bytes: &[u8]) -> Option<Act>
+    ensures { result ≡ plan_act version file.now bytes.now }
+{
+    let file = hash(file)?;
+    let range = range(bytes)?;
+    Some(Act::Plan {
+        version,
+        file,
+        range,
+    })
+}
+
+fn fetch(read: &[u8], link: &[u8]) -> Option<Act>
+    ensures { result ≡ fetch_act read.now link.now }
+{
+    let read = number(read)?;
+    let link = small_number(link)?;
+    Some(Act::Fetch { read, link })
+}
+
+/// The act of a command with one word.
+fn one_word(alloc: Global, command: &[u8], word: &[u8]) -> Result<Option<Act>, OutOfMemory>
+    ensures { IfOk result (λ act. act ≡ one_word command.now word.now) }
+{
+    if command == b"shard".as_slice() {
+        shard(alloc, word)
+    } else {
+        Ok(None)
+    }
+}
+
+/// The act of a command with two words.
+fn two_words(
+    alloc: Global,
+    command: &[u8],
+    first: &[u8],
+    second: &[u8],
+) -> Result<Option<Act>, OutOfMemory>
+    ensures { IfOk result (λ act. act ≡ two_words command.now first.now second.now) }
+{
+    if command == b"xorb".as_slice() {
+        xorb(alloc, first, second)
+    } else if command == b"plan1".as_slice() {
+        Ok(plan(PlanVersion::V1, first, second))
+    } else if command == b"fetch".as_slice() {
+        Ok(fetch(first, second))
+    } else {
+        Ok(None)
+    }
+}
+
+/// The act of a command whose words are joined by single spaces.
+fn act_with(alloc: Global, command: &[u8], words: &[u8]) -> Result<Option<Act>, OutOfMemory>
+    ensures { IfOk result (λ act. act ≡ words_from command.now (parts_of 32 words.now)) }
+{
+    let (first, rest) = cut(words, b' ');
+    let Some(rest) = rest else {
+        return one_word(alloc, command, first);
+    };
+    let (second, rest) = cut(rest, b' ');
+    match rest {
+        None => two_words(alloc, command, first, second),
+        Some(_) => Ok(None),
+    }
+}
+
+fn act(alloc: Global, text: &[u8]) -> Result<Option<Act>, OutOfMemory>
+    ensures { IfOk result (λ act. act ≡ act_of (parts_of 32 text.now)) }
+{
+    let (command, rest) = cut(text, b' ');
+    match rest {
+        Some(words) => act_with(alloc, command, words),
+        None => Ok(None),
+    }
+}
+
+/// A moment, and an act at it.
+fn command(alloc: Global, text: &[u8]) -> Result<Line, OutOfMemory>
+    ensures { IfOk result (λ line. line ≡ words_line (parts_of 32 text.now)) }
+{
+    let (at, rest) = cut(text, b' ');
+    let Some(at) = number(at) else {
+        return Ok(Line::Bad);
+    };
+    let Some(rest) = rest else {
+        return Ok(Line::Bad);
+    };
+    match act(alloc, rest)? {
+        Some(act) => Ok(Line::Command(Step { at, act })),
+        None => Ok(Line::Bad),
+    }
+}
+
+fn ascii_line(alloc: Global, text: &[u8]) -> Result<Line, OutOfMemory>
+    ensures { IfOk result (λ line. line ≡ ascii_line text.now) }
+{
+    if text.is_empty() {
+        return Ok(Line::Passed);
+    }
+    if text[0] == b'#' {
+        return Ok(Line::Passed);
+    }
+    command(alloc, text)
+}
+
+/// Whether every byte is below 128.
+fn is_ascii_text(text: &[u8]) -> bool
+    ensures { result ≡ list_all is_ascii text.now }
+{
+    let mut greatest = 0u8;
+    for byte in text {
+        greatest = greatest.max(*byte);
+    }
+    greatest < 128
+}
+
+/// What a line means, given without its end.
+pub fn line_of(alloc: Global, text: &[u8]) -> Result<Line, OutOfMemory>
+    ensures { IfOk result (λ line. line ≡ line_of text.now) }
+{
+    if is_ascii_text(text) {
+        ascii_line(alloc, text)
+    } else {
+        Ok(Line::Bad)
+    }
+}

@@ -1,0 +1,95 @@
+//! The words of a line, and what they mean.
+ghost use Rattle.std.specs.Prelude.{◌≡◌, ◌∷◌, IfOk, Option};
+ghost use Rattle.std.specs.Option.{option_copied};
+ghost use Rattle.xet_types.specs.declared.hash.MerkleHash.{MerkleHash};
+ghost use Rattle.xet_demo.specs.Words.{parts_of, parts_after, number_of, small_number_of, hash_of, octets_of, range_of, between};
+
+use super::digits::decode;
+use memchr::memchr;
+use std::alloc::Global;
+use xet_types::{FileRange, MerkleHash, Octets, OutOfMemory};
+
+/// What stands before the first separator, and, where there is one, what stands after it.
+pub fn cut(text: &[u8], separator: u8) -> (&[u8], Option<&[u8]>)
+    ensures { parts_of separator text.now ≡ result.0.now ∷ parts_after separator (option_copied result.1) }
+{
+    match memchr(separator, text) {
+        Some(at) => (&text[..at], Some(&text[at + 1..])),
+        None => (text, None),
+    }
+}
+
+/// The number that 1 to 20 decimal digits write, if it is below 2^64.
+pub fn number(word: &[u8]) -> Option<u64>
+    ensures { result ≡ number_of word.now }
+{
+    if word.is_empty() || word.len() > 20 {
+        return None;
+    }
+    let mut value = 0u64;
+    for digit in word {
+        if !digit.is_ascii_digit() {
+            return None;
+        }
+        value = value
+            .checked_mul(10)?
+            .checked_add(u64::from(*digit - b'0'))?;
+    }
+    Some(value)
+}
+
+/// The same below 2^32.
+pub fn small_number(word: &[u8]) -> Option<u32>
+    ensures { result ≡ small_number_of word.now }
+{
+    u32::try_from(number(word)?).ok()
+}
+
+/// The hash that 64 hexadecimal digits spell.
+pub fn hash(word: &[u8]) -> Option<MerkleHash>
+    ensures { result ≡ hash_of word.now }
+{
+    match MerkleHash::from_hex_bytes(word) {
+        Ok(hash) => Some(hash),
+        Err(_) => None,
+    }
+}
+
+/// The bytes that hexadecimal digits spell; `-` for none.
+pub fn octets(alloc: Global, word: &[u8]) -> Result<Option<Octets>, OutOfMemory>
+    ensures { IfOk result (λ bytes. bytes ≡ octets_of word.now) }
+{
+    if word == b"-".as_slice() {
+        return Ok(Some(Octets::new()));
+    }
+    if word.is_empty() {
+        return Ok(None);
+    }
+    match decode(alloc, word)? {
+        Some(bytes) => Ok(Some(Octets::from_vec(bytes)?)),
+        None => Ok(None),
+    }
+}
+
+/// `all`, or two numbers with `-` between them.
+pub fn range(word: &[u8]) -> Option<Option<FileRange>>
+    ensures { result ≡ range_of word.now }
+{
+    if word == b"all".as_slice() {
+        return Some(None);
+    }
+    let (start, rest) = cut(word, b'-');
+    let (end, rest) = cut(rest?, b'-');
+    match rest {
+        None => between(start, end),
+        Some(_) => None,
+    }
+}
+
+fn between(start: &[u8], end: &[u8]) -> Option<Option<FileRange>>
+    ensures { result ≡ between start.now end.now }
+{
+    let start = number(start)?;
+    let end = number(end)?;
+    Some(Some(FileRange::new(start, end)))
+}

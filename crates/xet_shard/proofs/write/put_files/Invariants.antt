@@ -1,0 +1,7 @@
+use Rattle.std.proofs.Common.{◌≡◌, ◌++◌, take}
+use Rattle.std.specs.List.{flat_map}
+use Rattle.xet_shard.specs.ShardBytes.{listing_bytes}
+use Rattle.xet_shard.proofs.write.put_files.Given as goal
+
+abbrev pub invariant-loop-file : goal.invariant-loop-file
+invariant-loop-file l = l.out.items ≡ l.fn.out.items ++ flat_map listing_bytes (take l.file-index l.files)

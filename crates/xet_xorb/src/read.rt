@@ -1,0 +1,124 @@
+//! Reading a xorb's bytes.
+ghost use Rattle.std.specs.Prelude.{◌≡◌, drop};
+ghost use Rattle.xet_bytes.specs.Reading.{Gives};
+ghost use Rattle.xet_xorb.specs.Steps.{header_at, ReadsHeader, TakesChunk, ReadsParts};
+ghost use Rattle.xet_xorb.specs.XorbBytes.{ReadsXorb};
+
+use crate::object::XorbObject;
+use bytes::Bytes;
+use std::alloc::Global;
+use xet_bytes::{Cursor, ReadError};
+use xet_types::{ClientError, FormatFault, MerkleHash, compute_data_hash};
+
+/// The length in bytes of a chunk's header.
+pub const HEADER_LENGTH: usize = 8;
+
+/// A xorb that was read.
+#[derive(Debug, Drop)]
+pub struct ReadXorb {
+    /// The chunks, as slices of the bytes that were read.
+    pub chunks: Vec<Bytes>,
+    /// What is known of the xorb without its bytes.
+    pub object: XorbObject,
+    /// Whether the bytes had a footer.
+    pub has_footer: bool,
+}
+
+/// The chunks of a xorb, with the hash and the length in bytes of each.
+#[derive(Drop)]
+struct Parts {
+    chunks: Vec<Bytes>,
+    hashes: Vec<MerkleHash>,
+    lengths: Vec<u32>,
+}
+
+/// Reads a header: a version, the stored length, a scheme and the plain length, which are equal and above 0.
+fn header(cursor: &mut Cursor<'_>) -> Result<u32, ReadError>
+    ensures { Gives (λ n. n) result cursor.new (header_at cursor.old) }
+{
+    cursor.literal(&[0])?;
+    let stored = cursor.u24()?;
+    cursor.literal(&[0])?;
+    let plain = cursor.u24()?;
+    if stored != plain || stored == 0 {
+        return Err(ReadError::Malformed);
+    }
+    Ok(stored)
+}
+
+/// The length in bytes of the chunk whose header the bytes begin with.
+fn chunk_length(content: &[u8]) -> Result<usize, ReadError>
+    ensures { ReadsHeader content.now result }
+{
+    let mut cursor = Cursor::new(content);
+    let length = header(&mut cursor)?;
+    Ok(length as usize)
+}
+
+/// Takes the chunk at the front with its header.
+fn take_chunk(rest: &mut Bytes) -> Result<Bytes, ReadError>
+    ensures { TakesChunk (λ x. x) rest.old result (λ x. rest.new) }
+{
+    let length = chunk_length(rest.as_slice())?;
+    rest.advance(HEADER_LENGTH);
+    if rest.len() < length {
+        return Err(ReadError::Malformed);
+    }
+    let chunk = rest.split_to(length)?;
+    Ok(chunk)
+}
+
+/// The chunks to the end of the bytes, in one pass.
+fn read_parts(alloc: Global, content: &Bytes) -> Result<Parts, ReadError>
+    ensures { ReadsParts content.now result }
+{
+    let mut chunks = Vec::new(alloc);
+    let mut hashes = Vec::new(alloc);
+    let mut lengths = Vec::new(alloc);
+    let mut serialized_length = 48u64;
+    let mut rest = content.clone()?;
+    while !rest.is_empty() {
+        let chunk = take_chunk(&mut rest)?;
+        serialized_length += 48 + chunk.len() as u64;
+        if serialized_length >= 1 << 32 {
+            return Err(ReadError::Malformed);
+        }
+        hashes.push(compute_data_hash(chunk.as_slice()))?;
+        lengths.push(chunk.len() as u32)?;
+        chunks.push(chunk)?;
+    }
+    if chunks.is_empty() {
+        return Err(ReadError::Malformed);
+    }
+    Ok(Parts {
+        chunks,
+        hashes,
+        lengths,
+    })
+}
+
+/// Reads a xorb without a footer: one or more chunks and nothing else.
+///
+/// The chunks are slices of `content`. `FormatError(Xorb)` exactly where the bytes aren't the text of a well-formed
+/// list of chunks; a xorb with a footer isn't read yet.
+pub fn read_xorb(alloc: Global, content: &Bytes) -> Result<ReadXorb, ClientError>
+    ensures { ReadsXorb content.now result }
+{
+    match read_parts(alloc, content) {
+        Ok(parts) => {
+            let Parts {
+                chunks,
+                hashes,
+                lengths,
+            } = parts;
+            let object = XorbObject::new(alloc, hashes, lengths.as_slice())?;
+            Ok(ReadXorb {
+                chunks,
+                object,
+                has_footer: false,
+            })
+        }
+        Err(ReadError::Memory) => Err(ClientError::OutOfMemory),
+        Err(ReadError::Malformed) => Err(ClientError::FormatError(FormatFault::Xorb)),
+    }
+}
