@@ -191,3 +191,6 @@ pub fn compute_reconstruction_ranges<F: Footers>(
         }
     }
 }
+
+#[cfg(test)]
+mod tests;

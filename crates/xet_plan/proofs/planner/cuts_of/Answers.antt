@@ -1,4 +1,4 @@
-use Rattle.std.proofs.Common.{Err, Some, ◌≡◌, ◌∙◌, ◌+◌, ◌<◌, ◌∷◌, [], drop, arith}
+use Rattle.std.proofs.Common.{ap, sym, Err, Some, ◌≡◌, ◌∙◌, ◌+◌, ◌<◌, ◌∷◌, [], drop, arith}
 use Rattle.std.proofs.lemmas.List.{drop_all}
 use Rattle.std.proofs.lemmas.Result.{err_from_is_err_and}
 use Rattle.xet_types.specs.declared.error.ClientError.TheVariants.{FormatError}
@@ -38,7 +38,7 @@ loop-segment-preserved g c =
       c.object_of.ensures.stays ∙ c.loop-segment.invariant.1,
       omega (arith, c.object_of.ensures.cause.later, c.loop-segment.invariant.2),
       λ known told.
-          let is = c.in_ok-object.ensures.answer known (c.loop-segment.invariant.1 ∙ told) (c.loop-segment.invariant.5 known told) in
+          let is = c.in_ok-object.ensures.answer known (c.loop-segment.invariant.1 ∙ told) (c.loop-segment.invariant.5 known told) ∙ ap Some (sym c.deref-shared.ensures) in
           let r = c.in_ok-cut.ensures.answer known is in
           rw (c.from-at.ensures, c.in_ok-push.ensures.items)
           (so_far_take known (interval c.args.start c.args.end) xs c.loop-segment.at s (drop (i + 1) xs) c.loop-segment.cuts.items c.in_ok-cut.cut
@@ -61,7 +61,7 @@ returns-in_err-cut-clause-answer g c = λ known told.
     let clip = interval c.args.start c.args.end in
     let e = c.in_err-cut.field-0.0 in
     let more : drop i xs ≡ s ∷ drop (i + 1) xs = drop_read xs i s (omega arith) c.segment-item.is in
-    let is = c.in_ok-object.ensures.answer known (c.loop-segment.invariant.1 ∙ told) (c.loop-segment.invariant.5 known told) in
+    let is = c.in_ok-object.ensures.answer known (c.loop-segment.invariant.1 ∙ told) (c.loop-segment.invariant.5 known told) ∙ ap Some (sym c.deref-shared.ensures) in
     let a : CutAnswer known clip (place c.loop-segment.at s) (Err e) = c.in_err-cut.ensures.answer known is in
     let r : e ≡ FormatError AtSegment = c.in_err-cut.ensures.refusals in
     let f : fault known s ≡ Some (refusals.FormatError AtSegment) = rw r at a in
