@@ -17,7 +17,7 @@ use Rattle.xet_plan.specs.declared.place.Cut.{Cut}
 use Rattle.xet_plan.specs.Places.{Interval, interval, Known, reach, first_fault, met_segments}
 use Rattle.xet_plan.specs.MetChunks.{terms_of, offset_of, met_chunks, Has, chunk_range}
 use Rattle.xet_plan.specs.Least.{IsLeast}
-use Rattle.xet_plan.specs.FileBytes.{Content, Describes, assembled, file_bytes}
+use Rattle.xet_plan.specs.FileBytes.{Content, Describes, assembled, file_bytes, asked_length}
 use Rattle.xet_plan.specs.Runs.{Group, IsMerged}
 use Rattle.xet_plan.specs.Cuts.{IsReadable, object_lengths}
 use Rattle.xet_plan.specs.Merging.{CutsHave, CutAt, RangesAt, group_of}
@@ -113,7 +113,10 @@ Places r (Err (HttpStatus status)) = ⊥
 abbrev pub PlansLeast : Known → List Segment → Option (Range ℕ _F) → Result (Option PlanModel) ClientError → Type 0
 PlansLeast known segments range result = IfOk result (λ answer. IfSome answer (λ plan. IfWithin (reach (size_of segments) range) (λ clip. IsLeast known segments clip (groups_of plan))))
 
--- a plan's terms, joined, less the offset and cut to the length that is reached, are the file's bytes
+-- a plan's terms, joined, less the offset and cut to the length that is reached, or to the length that is asked, are the file's bytes
+pub record IsAssembled (known : Known) (segments : List Segment) (range : Option (Range ℕ _F)) (clip : Interval) (plan : PlanModel) : Type 0 where
+  pub clipped : (content : Content) → Describes known content → assembled content plan.terms plan.offset_into_first_range (clip.end - clip.start) ≡ file_bytes content clip segments
+  pub asked : (content : Content) → Describes known content → assembled content plan.terms plan.offset_into_first_range (asked_length range clip) ≡ file_bytes content clip segments
+
 abbrev pub PlansBytes : Known → List Segment → Option (Range ℕ _F) → Result (Option PlanModel) ClientError → Type 0
-PlansBytes known segments range result = IfOk result (λ answer. IfSome answer (λ plan. IfWithin (reach (size_of segments) range) (λ clip. (content : Content) → Describes known content
-    → assembled content plan.terms plan.offset_into_first_range (clip.end - clip.start) ≡ file_bytes content clip segments)))
+PlansBytes known segments range result = IfOk result (λ answer. IfSome answer (λ plan. IfWithin (reach (size_of segments) range) (λ clip. IsAssembled known segments range clip plan)))
