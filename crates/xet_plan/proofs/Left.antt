@@ -1,5 +1,5 @@
 -- How much of the joined terms there is: past a clip that ends with the file there is nothing more.
-use Rattle.std.proofs.Common.{◌≡◌, ◌∙◌, ℕ, ◌+◌, ◌-◌, ◌<◌, ◌≤◌, ◌==◌, ◌&&◌, nat_le, min, max, cond, List, [], ◌∷◌, ◌++◌, length, map, take, drop, sum, refl, sym, ap, subst, arith, ◌⊎◌, inl, inr, true, false, Bool, Option, Some, None}
+use Rattle.std.proofs.Common.{◌≡◌, ◌∙◌, ℕ, ◌+◌, ◌-◌, ◌<◌, ◌≤◌, ◌==◌, ◌&&◌, nat_le, min, max, cond, List, [], ◌∷◌, ◌++◌, length, map, take, drop, sum, refl, sym, ap, arith, ◌⊎◌, inl, inr, true, false, Bool, Some}
 use Rattle.std.specs.Bool.{if◌then◌else◌}
 use Rattle.std.specs.List.{AllByRecursion, flat_map, concat}
 use Rattle.std.proofs.lemmas.Bool.{cases_lt, ltb-true, ltb-false, le-ltb, eqb-true}
@@ -9,7 +9,6 @@ use Rattle.xet_types.specs.declared.range.Range.{Range}
 use Rattle.xet_types.specs.declared.range._F.{_F}
 use Rattle.xet_shard.specs.declared.listing.Segment.{Segment}
 use Rattle.xet_shard.specs.Values.{listed_length, size_of}
-use Rattle.xet_plan.specs.declared.place.Reach.{Reach}
 use Rattle.xet_plan.specs.declared.place.Reach.TheVariants.{Past, Reversed, Within}
 use Rattle.xet_plan.specs.Places.{Interval, Placed, Known, place, meets, met_from, reach}
 use Rattle.xet_plan.specs.MetChunks.{kept, term, offset_in}

@@ -19,7 +19,7 @@ use Rattle.xet_plan.specs.MetChunks.{terms_of, offset_of, met_chunks, Has, chunk
 use Rattle.xet_plan.specs.Least.{IsLeast}
 use Rattle.xet_plan.specs.FileBytes.{Content, Describes, assembled, file_bytes, asked_length}
 use Rattle.xet_plan.specs.Runs.{Group, IsMerged}
-use Rattle.xet_plan.specs.Cuts.{IsReadable, object_lengths}
+use Rattle.xet_plan.specs.Cuts.{IsReadable, Names, object_lengths}
 use Rattle.xet_plan.specs.Merging.{CutsHave, CutAt, RangesAt, group_of}
 use Rattle.xet_plan.specs.Plans.{PlanModel}
 
@@ -93,21 +93,21 @@ Answers known segments range (Err (CacheError text)) = ⊥
 Answers known segments range (Err (HttpStatus status)) = ⊥
 
 -- which answer a range has, whatever the footers tell
-abbrev pub Places : Reach → Result (Option PlanModel) ClientError → Type 0
-Places r (Ok None) = r ≡ Past
-Places r (Ok (Some plan)) = IfWithin r (λ clip. Unit {0})
-Places r (Err InvalidRange) = r ≡ Reversed
-Places r (Err (FormatError f)) = IfWithin r (λ clip. (f ≡ AtXorb) ⊎ (f ≡ AtSegment))
-Places r (Err (XORBNotFound h)) = IfWithin r (λ clip. Unit {0})
-Places r (Err IOError) = IfWithin r (λ clip. Unit {0})
-Places r (Err OutOfMemory) = Unit {0}
-Places r (Err InvalidArguments) = ⊥
-Places r (Err (FileNotFound h)) = ⊥
-Places r (Err PresignedUrlExpirationError) = ⊥
-Places r (Err (Other text)) = ⊥
-Places r (Err (InvalidKey text)) = ⊥
-Places r (Err (CacheError text)) = ⊥
-Places r (Err (HttpStatus status)) = ⊥
+abbrev pub Places : List Segment → Option (Range ℕ _F) → Result (Option PlanModel) ClientError → Type 0
+Places segments range (Ok None) = reach (size_of segments) range ≡ Past
+Places segments range (Ok (Some plan)) = IfWithin (reach (size_of segments) range) (λ clip. Unit {0})
+Places segments range (Err InvalidRange) = reach (size_of segments) range ≡ Reversed
+Places segments range (Err (FormatError f)) = IfWithin (reach (size_of segments) range) (λ clip. (f ≡ AtXorb) ⊎ (f ≡ AtSegment))
+Places segments range (Err (XORBNotFound h)) = IfWithin (reach (size_of segments) range) (λ clip. Names (met_segments clip segments) h)
+Places segments range (Err IOError) = IfWithin (reach (size_of segments) range) (λ clip. Unit {0})
+Places segments range (Err OutOfMemory) = Unit {0}
+Places segments range (Err InvalidArguments) = ⊥
+Places segments range (Err (FileNotFound h)) = ⊥
+Places segments range (Err PresignedUrlExpirationError) = ⊥
+Places segments range (Err (Other text)) = ⊥
+Places segments range (Err (InvalidKey text)) = ⊥
+Places segments range (Err (CacheError text)) = ⊥
+Places segments range (Err (HttpStatus status)) = ⊥
 
 -- a plan is the least
 abbrev pub PlansLeast : Known → List Segment → Option (Range ℕ _F) → Result (Option PlanModel) ClientError → Type 0

@@ -83,17 +83,22 @@ CutsAnswer known clip segments (Err (InvalidKey text)) = ⊥
 CutsAnswer known clip segments (Err (CacheError text)) = ⊥
 CutsAnswer known clip segments (Err (HttpStatus status)) = ⊥
 
--- the refusals of a met segment, whatever is told: those of its footer, and that it disagrees with its xorb
-abbrev pub IsCutRefusal : ClientError → Type 0
-IsCutRefusal (FormatError f) = (f ≡ AtXorb) ⊎ (f ≡ AtSegment)
-IsCutRefusal (XORBNotFound h) = Unit {0}
-IsCutRefusal IOError = Unit {0}
-IsCutRefusal OutOfMemory = Unit {0}
-IsCutRefusal InvalidRange = ⊥
-IsCutRefusal InvalidArguments = ⊥
-IsCutRefusal (FileNotFound h) = ⊥
-IsCutRefusal PresignedUrlExpirationError = ⊥
-IsCutRefusal (Other text) = ⊥
-IsCutRefusal (InvalidKey text) = ⊥
-IsCutRefusal (CacheError text) = ⊥
-IsCutRefusal (HttpStatus status) = ⊥
+-- the xorb is that of one of these segments
+abbrev pub Names : List Placed → List ℕ → Type 0
+Names [] h = ⊥
+Names (p ∷ ps) h = (p.segment.xorb_hash ≡ h) ⊎ Names ps h
+
+-- the refusals of the met segments, whatever is told: those of their footers, and that one disagrees with its xorb
+abbrev pub IsPlanRefusal : Interval → List Segment → ClientError → Type 0
+IsPlanRefusal clip segments (FormatError f) = (f ≡ AtXorb) ⊎ (f ≡ AtSegment)
+IsPlanRefusal clip segments (XORBNotFound h) = Names (met_segments clip segments) h
+IsPlanRefusal clip segments IOError = Unit {0}
+IsPlanRefusal clip segments OutOfMemory = Unit {0}
+IsPlanRefusal clip segments InvalidRange = ⊥
+IsPlanRefusal clip segments InvalidArguments = ⊥
+IsPlanRefusal clip segments (FileNotFound h) = ⊥
+IsPlanRefusal clip segments PresignedUrlExpirationError = ⊥
+IsPlanRefusal clip segments (Other text) = ⊥
+IsPlanRefusal clip segments (InvalidKey text) = ⊥
+IsPlanRefusal clip segments (CacheError text) = ⊥
+IsPlanRefusal clip segments (HttpStatus status) = ⊥

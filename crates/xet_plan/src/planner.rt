@@ -3,7 +3,7 @@ ghost use Rattle.std.specs.Prelude.{◌≡◌, ℕ, ◌^◌, ◌<◌, length, So
 ghost use Rattle.xet_shard.specs.Values.{size_of};
 ghost use Rattle.xet_plan.specs.Places.{Known, interval, reach};
 ghost use Rattle.xet_plan.specs.Footers.{FailsOnlyByFault};
-ghost use Rattle.xet_plan.specs.Cuts.{CutsAnswer, IsCutRefusal};
+ghost use Rattle.xet_plan.specs.Cuts.{CutsAnswer, IsPlanRefusal};
 ghost use Rattle.xet_plan.specs.Merging.{NoneEmpty, ranges_shown};
 ghost use Rattle.xet_plan.specs.Answers.{Answers, Places, PlanAnswer, PlansLeast, PlansBytes, IsPlanOf, cut_offset, cut_term};
 
@@ -79,7 +79,7 @@ fn cuts_of<F: Footers>(
     requires few { length segments.now < 2 ^ 32 }
     ensures answer { (known : Known) → F.told footers.old ≡ Some known → CutsAnswer known (interval start end) segments.now result }
     ensures nonempty { IfOk result (λ cuts. NoneEmpty cuts.items) }
-    ensures refusals { IfErr result IsCutRefusal }
+    ensures refusals { IfErr result (IsPlanRefusal (interval start end) segments.now) }
     ensures stays { F.told footers.new ≡ F.told footers.old }
     ensures cause { FailsOnlyByFault (F.faults footers.old) (F.faults footers.new) result }
 {
@@ -152,7 +152,7 @@ fn plan_within<F: Footers>(
 ) -> Result<Plan, ClientError>
     requires few { length segments.now < 2 ^ 32 }
     ensures answer { (known : Known) → F.told footers.old ≡ Some known → PlanAnswer known (interval start end) segments.now result }
-    ensures refusals { IfErr result IsCutRefusal }
+    ensures refusals { IfErr result (IsPlanRefusal (interval start end) segments.now) }
     ensures stays { F.told footers.new ≡ F.told footers.old }
     ensures cause { FailsOnlyByFault (F.faults footers.old) (F.faults footers.new) result }
 {
@@ -173,7 +173,7 @@ pub fn compute_reconstruction_ranges<F: Footers>(
     bytes_range: Option<FileRange>,
     footers: &mut F,
 ) -> Result<Option<Plan>, ClientError>
-    ensures place { Places (reach (size_of listing.now.segments) bytes_range) result }
+    ensures place { Places listing.now.segments bytes_range result }
     ensures answer { (known : Known) → F.told footers.old ≡ Some known → Answers known listing.now.segments bytes_range result }
     ensures least { (known : Known) → F.told footers.old ≡ Some known → PlansLeast known listing.now.segments bytes_range result }
     ensures bytes { (known : Known) → F.told footers.old ≡ Some known → PlansBytes known listing.now.segments bytes_range result }

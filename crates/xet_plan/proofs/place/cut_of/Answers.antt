@@ -1,4 +1,4 @@
-use Rattle.std.proofs.Common.{◌≡◌, ◌∙◌, sym, rules}
+use Rattle.std.proofs.Common.{◌∙◌, sym, rules}
 use Rattle.xet_plan.proofs.place.cut_of.Goals as goal
 
 pub narrow-requires-clause-nonempty : goal.narrow-requires-clause-nonempty

@@ -4,10 +4,10 @@ use Rattle.std.proofs.lemmas.Result.{err_from_is_err_and}
 use Rattle.xet_types.specs.declared.error.ClientError.TheVariants.{FormatError}
 use Rattle.xet_types.specs.declared.error.FormatFault.TheVariants.{Segment as AtSegment}
 use Rattle.xet_types.specs.declared.error.Refusal.TheVariants as refusals
-use Rattle.xet_plan.specs.Cuts.{CutAnswer}
-use Rattle.xet_plan.specs.Places.{interval, place, fault}
+use Rattle.xet_plan.specs.Cuts.{CutAnswer, Names}
+use Rattle.xet_plan.specs.Places.{interval, place, fault, met_segments}
 use Rattle.xet_plan.proofs.Order.{all_push}
-use Rattle.xet_plan.proofs.SoFar.{so_far_fault, so_far_skip, so_far_take, so_far_all, drop_read, meets-no, meets-yes}
+use Rattle.xet_plan.proofs.SoFar.{named_skip, named_take, named_first, footer_refused, so_far_fault, so_far_skip, so_far_take, so_far_all, drop_read, meets-no, meets-yes}
 use Rattle.xet_plan.proofs.planner.cuts_of.Goals as goal
 
 pub loop-segment-preserved-then-max-min : goal.loop-segment-preserved-then-max-min
@@ -26,6 +26,8 @@ loop-segment-preserved-then-max-min g c =
           (rw more at (c.loop-segment.invariant.3 known told))),
       c.loop-segment.invariant.4,
       c.loop-segment.invariant.5,
+      rw c.from-at.ensures
+          (named_skip (interval c.args.start c.args.end) xs c.loop-segment.at s (drop (i + 1) xs) (meets-no c.args.start c.args.end c.loop-segment.at s.unpacked_segment_bytes (omega arith)) (rw more at c.loop-segment.invariant.6)),
     )
 
 pub loop-segment-preserved : goal.loop-segment-preserved
@@ -46,6 +48,8 @@ loop-segment-preserved g c =
           (rw more at (c.loop-segment.invariant.3 known told))),
       rw c.in_ok-push.ensures.items (all_push (λ x. x.start < x.end) c.loop-segment.cuts.items c.in_ok-cut.cut c.loop-segment.invariant.4 c.in_ok-cut.ensures.nonempty),
       λ known told. c.in_ok-object.ensures.answer known (c.loop-segment.invariant.1 ∙ told) (c.loop-segment.invariant.5 known told),
+      rw c.from-at.ensures
+          (named_take (interval c.args.start c.args.end) xs c.loop-segment.at s (drop (i + 1) xs) (meets-yes c.args.start c.args.end c.loop-segment.at s.unpacked_segment_bytes (omega arith)) (rw more at c.loop-segment.invariant.6)),
     )
 
 pub returns-clause-answer : goal.returns-clause-answer
@@ -69,3 +73,14 @@ returns-in_err-cut-clause-answer g c = λ known told.
     rw (p.1, p.2, r)
     (so_far_fault known clip xs c.loop-segment.at s (drop (i + 1) xs) c.loop-segment.cuts.items (refusals.FormatError AtSegment)
     (meets-yes c.args.start c.args.end c.loop-segment.at s.unpacked_segment_bytes (omega arith)) f (rw more at (c.loop-segment.invariant.3 known told)))
+
+pub returns-in_err-object-clause-refusals : goal.returns-in_err-object-clause-refusals
+returns-in_err-object-clause-refusals g c =
+    let xs = c.args.segments.now in
+    let i = c.loop-segment.segment-index in
+    let s = c.segment-item.result in
+    let clip = interval c.args.start c.args.end in
+    let more : drop i xs ≡ s ∷ drop (i + 1) xs = drop_read xs i s (omega arith) c.segment-item.is in
+    let n : Names (met_segments clip xs) s.xorb_hash = named_first clip xs c.loop-segment.at s (drop (i + 1) xs) (meets-yes c.args.start c.args.end c.loop-segment.at s.unpacked_segment_bytes (omega arith)) (rw more at c.loop-segment.invariant.6) in
+    let p = err_from_is_err_and c.from_residual.result c.from_residual.ensures.1 in
+    rw (p.1, p.2) (footer_refused clip xs s.xorb_hash c.in_err-object.field-0.0 c.in_err-object.ensures.refusals n)
