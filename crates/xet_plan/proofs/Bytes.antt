@@ -14,14 +14,14 @@ use Rattle.xet_plan.proofs.Source.{positive_range}
 use Rattle.xet_plan.proofs.Window.{Full, keep, first_kept, IsWindow, window, window_range, inside, before}
 
 -- a met segment with its chunks
-record IsHeld (known : Known) (content : Content) (clip : Interval) (p : Placed) : Type 0 where
-  chunks : List (List ℕ)
-  full : Full chunks
-  sums : sum (map length chunks) ≡ p.segment.unpacked_segment_bytes
-  bytes : segment_bytes content p.segment ≡ concat chunks
-  first : first_at (kept known clip p) ≡ first_kept clip p.at chunks
-  some : (h : List Chunk) → offset_in clip.start (kept known clip p ++ h) ≡ clip.start - first_at (kept known clip p)
-  term_is : term_bytes content (term p.segment.xorb_hash (kept known clip p)) ≡ concat (keep clip p.at chunks)
+pub record IsHeld (known : Known) (content : Content) (clip : Interval) (p : Placed) : Type 0 where
+  pub chunks : List (List ℕ)
+  pub full : Full chunks
+  pub sums : sum (map length chunks) ≡ p.segment.unpacked_segment_bytes
+  pub bytes : segment_bytes content p.segment ≡ concat chunks
+  pub first : first_at (kept known clip p) ≡ first_kept clip p.at chunks
+  pub some : (h : List Chunk) → offset_in clip.start (kept known clip p ++ h) ≡ clip.start - first_at (kept known clip p)
+  pub term_is : term_bytes content (term p.segment.xorb_hash (kept known clip p)) ≡ concat (keep clip p.at chunks)
 
 full_from : (ds : List (List ℕ)) → AllByRecursion (λ n. 0 < n) (map length ds) → Full ds
 full_from [] a = tt
@@ -35,7 +35,7 @@ offset-lay : (start : ℕ) (h : List ℕ) (n at : ℕ) (ns : List ℕ) (cs : Lis
 offset-lay start h n at [] cs l = absurd (omega arith)
 offset-lay start h n at (x ∷ xs) cs l = refl
 
-held : (known : Known) (content : Content) (clip : Interval) (p : Placed) → Describes known content → IsReadable known p → max clip.start p.at < min clip.end (p.at + p.segment.unpacked_segment_bytes) → IsHeld known content clip p
+pub held : (known : Known) (content : Content) (clip : Interval) (p : Placed) → Describes known content → IsReadable known p → max clip.start p.at < min clip.end (p.at + p.segment.unpacked_segment_bytes) → IsHeld known content clip p
 held known content clip p f r m =
     let h = p.segment.xorb_hash in
     let i = p.segment.chunk_index_start in
@@ -65,10 +65,10 @@ held known content clip p f r m =
           ∙ ap concat (window_range clip h p.at d.0 i j (omega (arith, a.order)) (omega (arith, a.inside)) w);
     }
 
-abbrev held_bytes : Content → List Placed → List ℕ
+abbrev pub held_bytes : Content → List Placed → List ℕ
 held_bytes content ps = flat_map (λ p. segment_bytes content p.segment) ps
 
-abbrev kept_bytes : Known → Content → Interval → List Placed → List ℕ
+abbrev pub kept_bytes : Known → Content → Interval → List Placed → List ℕ
 kept_bytes known content clip ps = flat_map (λ p. term_bytes content (term p.segment.xorb_hash (kept known clip p))) ps
 
 -- the segments from one inside the interval on
@@ -137,7 +137,7 @@ first_le clip at (s ∷ ss) l o =
     ] in
     by (meets clip at n) refl
 
-flat_map-map : {X Y Z : Type 0} (f : Y → List Z) (g : X → Y) (xs : List X) → flat_map f (map g xs) ≡ flat_map (λ x. f (g x)) xs
+pub flat_map-map : {X Y Z : Type 0} (f : Y → List Z) (g : X → Y) (xs : List X) → flat_map f (map g xs) ≡ flat_map (λ x. f (g x)) xs
 flat_map-map f g [] = refl
 flat_map-map f g (x ∷ xs) = ap (λ zs. f (g x) ++ zs) (flat_map-map f g xs)
 

@@ -6,6 +6,8 @@ use Rattle.std.proofs.lemmas.List.Edits.{between_more, between_none}
 use Rattle.std.proofs.lemmas.Bool.Decides.{nat_tests}
 use Rattle.std.proofs.lemmas.Bool.{cases_lt}
 use Rattle.std.proofs.Math.Seq.{take-add}
+use Rattle.std.specs.List.{AllByRecursion, All}
+use Rattle.std.proofs.lemmas.List.Elements.{recursion_from_All, All-take, All-drop}
 use Rattle.xet_plan.specs.Places.{Interval}
 use Rattle.xet_plan.specs.MetChunks.{Chunk, chunk, lay, is_met}
 
@@ -100,3 +102,31 @@ run_past xs i k s at to l m e p = elim (cases_lt i k) as (λ _. s < to + get_or 
 
 pub sum-range-range : (xs : List ℕ) (i j k : ℕ) → i ≤ j → j ≤ k → sum (slice_range xs i j) + sum (slice_range xs j k) ≡ sum (slice_range xs i k)
 sum-range-range xs i j k l m = omega (arith, sum-range xs i j l, sum-range xs j k m, sum-range xs i k (omega arith))
+
+-- of chunks inside the interval each meets it
+all_inside : (clip : Interval) (h : List ℕ) (n at : ℕ) (xs : List ℕ) → AllByRecursion (λ x. 0 < x) xs → clip.start < at → clip.start < clip.end → at + sum xs ≤ clip.end → filter (is_met clip) (lay h n at xs) ≡ lay h n at xs
+all_inside clip h n at [] p s o e = refl
+all_inside clip h n at (x ∷ xs) p s o e =
+    let t : is_met clip (chunk h n at x) ≡ true = is_met-yes clip h n at x p.0 (omega arith) (omega (arith, p.0, sum-cons x xs)) o in
+    filter-yes (is_met clip) (chunk h n at x) (lay h (n + 1) (at + x) xs) t
+    ∙ ap (λ (cs : List Chunk). chunk h n at x ∷ cs) (all_inside clip h (n + 1) (at + x) xs p.1 (omega arith) o (omega (arith, sum-cons x xs)))
+
+-- the same where the first of them may begin before the interval
+pub all_met : (clip : Interval) (h : List ℕ) (xs : List ℕ) (i j at : ℕ) → i ≤ j → j ≤ length xs → All (λ x. 0 < x) xs → clip.start < clip.end → (i < j → clip.start < at + get_or xs i 0) → at + sum (slice_range xs i j) ≤ clip.end
+    → filter (is_met clip) (lay h i at (slice_range xs i j)) ≡ lay h i at (slice_range xs i j)
+all_met clip h xs i j at l n p o s e = elim (cases_lt i j) as (λ _. filter (is_met clip) (lay h i at (slice_range xs i j)) ≡ lay h i at (slice_range xs i j)) [
+  | inl m ↦
+      (let x = get_or xs i 0 in
+      let ys = slice_range xs (i + 1) j in
+      let first : slice_range xs i j ≡ x ∷ ys = range-first xs i j m n in
+      let sums : sum (slice_range xs i j) ≡ x + sum ys = sum_range_first xs i j m n in
+      let positive : AllByRecursion (λ x. 0 < x) ys = recursion_from_All (λ x. 0 < x) ys (All-take (λ x. 0 < x) (j - (i + 1)) (drop (i + 1) xs) (All-drop (λ x. 0 < x) (i + 1) xs p)) in
+      let some : 0 < x = p i 0 (omega arith) in
+      let t : is_met clip (chunk h i at x) ≡ true = is_met-yes clip h i at x some (s m) (omega arith) o in
+      rw first
+      (filter-yes (is_met clip) (chunk h i at x) (lay h (i + 1) (at + x) ys) t
+      ∙ ap (λ (cs : List Chunk). chunk h i at x ∷ cs) (all_inside clip h (i + 1) (at + x) ys positive (s m) o (omega arith))))
+  | inr m ↦
+      (let same : j ≡ i = omega arith in
+      rw (same, range-none xs i) refl)
+]

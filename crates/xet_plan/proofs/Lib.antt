@@ -14,3 +14,4 @@ pub mod Window
 pub mod Bytes
 pub mod Unique
 pub mod PlanLaws
+pub mod Left

@@ -1,13 +1,16 @@
 -- What is known while the met segments are cut one after the other.
-use Rattle.std.proofs.Common.{◌≡◌, ◌∙◌, ℕ, ◌+◌, ◌<◌, ◌≤◌, min, max, length, get_or, drop, List, [], ◌∷◌, ◌++◌, map, refl, ap, sym, true, false, Some, None}
+use Rattle.std.proofs.Common.{◌≡◌, ◌∙◌, ℕ, ◌+◌, ◌<◌, ◌≤◌, min, max, length, get_or, drop, List, [], ◌∷◌, ◌++◌, map, refl, ap, sym, true, false, Some, None, subst, inl, inr}
 use Rattle.std.proofs.lemmas.List.{append_assoc, append-nil, drop_more}
 use Rattle.std.proofs.lemmas.Bool.{le-ltb, lt-ltb}
 use Rattle.std.specs.List.{AllByRecursion}
 use Rattle.xet_shard.specs.declared.listing.Segment.{Segment}
 use Rattle.xet_types.specs.declared.error.Refusal.{Refusal}
+use Rattle.xet_types.specs.declared.error.ClientError.{ClientError}
+use Rattle.xet_types.specs.declared.error.ClientError.TheVariants.{FormatError, InvalidRange, InvalidArguments, FileNotFound, XORBNotFound, PresignedUrlExpirationError, IOError, Other, InvalidKey, CacheError, HttpStatus, OutOfMemory}
+use Rattle.xet_plan.specs.Footers.{IsFooterRefusal}
 use Rattle.xet_plan.specs.declared.place.Cut.{Cut}
 use Rattle.xet_plan.specs.Places.{Interval, Known, interval, place, meets, met_from, met_segments, first_of, first_fault, fault, fault_at, or_else}
-use Rattle.xet_plan.specs.Cuts.{cut_at, IsReadable}
+use Rattle.xet_plan.specs.Cuts.{cut_at, IsReadable, Names, IsPlanRefusal}
 
 pub record SoFar (known : Known) (clip : Interval) (segments : List Segment) (at : ℕ) (rest : List Segment) (cuts : List Cut) : Type 0 where
   pub fault : first_of known (met_from clip at rest) ≡ first_fault known clip segments
@@ -70,3 +73,31 @@ meets-no start end at length h = le-ltb (max start at) (min end (at + length)) h
 
 pub meets-yes : (start end at length : ℕ) → max start at < min end (at + length) → meets (interval start end) at length ≡ true
 meets-yes start end at length h = lt-ltb (max start at) (min end (at + length)) h
+
+-- each xorb that the rest names is named by the whole
+abbrev pub NamedSoFar : Interval → List Segment → ℕ → List Segment → Type 0
+NamedSoFar clip segments at rest = (h : List ℕ) → Names (met_from clip at rest) h → Names (met_segments clip segments) h
+
+pub named_skip : (clip : Interval) (segments : List Segment) (at : ℕ) (s : Segment) (ss : List Segment) → meets clip at s.unpacked_segment_bytes ≡ false → NamedSoFar clip segments at (s ∷ ss) → NamedSoFar clip segments (at + s.unpacked_segment_bytes) ss
+named_skip clip segments at s ss e n = λ h p. n h (subst (λ ps. Names ps h) (sym (met-no clip at s ss e)) p)
+
+pub named_take : (clip : Interval) (segments : List Segment) (at : ℕ) (s : Segment) (ss : List Segment) → meets clip at s.unpacked_segment_bytes ≡ true → NamedSoFar clip segments at (s ∷ ss) → NamedSoFar clip segments (at + s.unpacked_segment_bytes) ss
+named_take clip segments at s ss e n = λ h p. n h (subst (λ ps. Names ps h) (sym (met-yes clip at s ss e)) (inr p))
+
+pub named_first : (clip : Interval) (segments : List Segment) (at : ℕ) (s : Segment) (ss : List Segment) → meets clip at s.unpacked_segment_bytes ≡ true → NamedSoFar clip segments at (s ∷ ss) → Names (met_segments clip segments) s.xorb_hash
+named_first clip segments at s ss e n = n s.xorb_hash (subst (λ ps. Names ps s.xorb_hash) (sym (met-yes clip at s ss e)) (inl refl))
+
+-- a footer's refusal is the planner's
+pub footer_refused : (clip : Interval) (segments : List Segment) (h : List ℕ) (err : ClientError) → IsFooterRefusal h err → Names (met_segments clip segments) h → IsPlanRefusal clip segments err
+footer_refused clip segments h (FormatError f) p n = inl p
+footer_refused clip segments h InvalidRange p n = absurd p
+footer_refused clip segments h InvalidArguments p n = absurd p
+footer_refused clip segments h (FileNotFound x) p n = absurd p
+footer_refused clip segments h (XORBNotFound x) p n = subst (Names (met_segments clip segments)) (sym p) n
+footer_refused clip segments h PresignedUrlExpirationError p n = absurd p
+footer_refused clip segments h IOError p n = tt
+footer_refused clip segments h (Other x) p n = absurd p
+footer_refused clip segments h (InvalidKey x) p n = absurd p
+footer_refused clip segments h (CacheError x) p n = absurd p
+footer_refused clip segments h (HttpStatus x) p n = absurd p
+footer_refused clip segments h OutOfMemory p n = tt

@@ -17,9 +17,9 @@ use Rattle.xet_plan.specs.declared.place.Cut.{Cut}
 use Rattle.xet_plan.specs.Places.{Interval, interval, Known, reach, first_fault, met_segments}
 use Rattle.xet_plan.specs.MetChunks.{terms_of, offset_of, met_chunks, Has, chunk_range}
 use Rattle.xet_plan.specs.Least.{IsLeast}
-use Rattle.xet_plan.specs.FileBytes.{Content, Describes, assembled, file_bytes}
+use Rattle.xet_plan.specs.FileBytes.{Content, Describes, assembled, file_bytes, asked_length}
 use Rattle.xet_plan.specs.Runs.{Group, IsMerged}
-use Rattle.xet_plan.specs.Cuts.{IsReadable, object_lengths}
+use Rattle.xet_plan.specs.Cuts.{IsReadable, Names, object_lengths}
 use Rattle.xet_plan.specs.Merging.{CutsHave, CutAt, RangesAt, group_of}
 use Rattle.xet_plan.specs.Plans.{PlanModel}
 
@@ -93,27 +93,30 @@ Answers known segments range (Err (CacheError text)) = ⊥
 Answers known segments range (Err (HttpStatus status)) = ⊥
 
 -- which answer a range has, whatever the footers tell
-abbrev pub Places : Reach → Result (Option PlanModel) ClientError → Type 0
-Places r (Ok None) = r ≡ Past
-Places r (Ok (Some plan)) = IfWithin r (λ clip. Unit {0})
-Places r (Err InvalidRange) = r ≡ Reversed
-Places r (Err (FormatError f)) = IfWithin r (λ clip. (f ≡ AtXorb) ⊎ (f ≡ AtSegment))
-Places r (Err (XORBNotFound h)) = IfWithin r (λ clip. Unit {0})
-Places r (Err IOError) = IfWithin r (λ clip. Unit {0})
-Places r (Err OutOfMemory) = Unit {0}
-Places r (Err InvalidArguments) = ⊥
-Places r (Err (FileNotFound h)) = ⊥
-Places r (Err PresignedUrlExpirationError) = ⊥
-Places r (Err (Other text)) = ⊥
-Places r (Err (InvalidKey text)) = ⊥
-Places r (Err (CacheError text)) = ⊥
-Places r (Err (HttpStatus status)) = ⊥
+abbrev pub Places : List Segment → Option (Range ℕ _F) → Result (Option PlanModel) ClientError → Type 0
+Places segments range (Ok None) = reach (size_of segments) range ≡ Past
+Places segments range (Ok (Some plan)) = IfWithin (reach (size_of segments) range) (λ clip. Unit {0})
+Places segments range (Err InvalidRange) = reach (size_of segments) range ≡ Reversed
+Places segments range (Err (FormatError f)) = IfWithin (reach (size_of segments) range) (λ clip. (f ≡ AtXorb) ⊎ (f ≡ AtSegment))
+Places segments range (Err (XORBNotFound h)) = IfWithin (reach (size_of segments) range) (λ clip. Names (met_segments clip segments) h)
+Places segments range (Err IOError) = IfWithin (reach (size_of segments) range) (λ clip. Unit {0})
+Places segments range (Err OutOfMemory) = Unit {0}
+Places segments range (Err InvalidArguments) = ⊥
+Places segments range (Err (FileNotFound h)) = ⊥
+Places segments range (Err PresignedUrlExpirationError) = ⊥
+Places segments range (Err (Other text)) = ⊥
+Places segments range (Err (InvalidKey text)) = ⊥
+Places segments range (Err (CacheError text)) = ⊥
+Places segments range (Err (HttpStatus status)) = ⊥
 
 -- a plan is the least
 abbrev pub PlansLeast : Known → List Segment → Option (Range ℕ _F) → Result (Option PlanModel) ClientError → Type 0
 PlansLeast known segments range result = IfOk result (λ answer. IfSome answer (λ plan. IfWithin (reach (size_of segments) range) (λ clip. IsLeast known segments clip (groups_of plan))))
 
--- a plan's terms, joined, less the offset and cut to the length that is reached, are the file's bytes
+-- a plan's terms, joined, less the offset and cut to the length that is reached, or to the length that is asked, are the file's bytes
+pub record IsAssembled (known : Known) (segments : List Segment) (range : Option (Range ℕ _F)) (clip : Interval) (plan : PlanModel) : Type 0 where
+  pub clipped : (content : Content) → Describes known content → assembled content plan.terms plan.offset_into_first_range (clip.end - clip.start) ≡ file_bytes content clip segments
+  pub asked : (content : Content) → Describes known content → assembled content plan.terms plan.offset_into_first_range (asked_length range clip) ≡ file_bytes content clip segments
+
 abbrev pub PlansBytes : Known → List Segment → Option (Range ℕ _F) → Result (Option PlanModel) ClientError → Type 0
-PlansBytes known segments range result = IfOk result (λ answer. IfSome answer (λ plan. IfWithin (reach (size_of segments) range) (λ clip. (content : Content) → Describes known content
-    → assembled content plan.terms plan.offset_into_first_range (clip.end - clip.start) ≡ file_bytes content clip segments)))
+PlansBytes known segments range result = IfOk result (λ answer. IfSome answer (λ plan. IfWithin (reach (size_of segments) range) (λ clip. IsAssembled known segments range clip plan)))

@@ -2,6 +2,7 @@
 use Rattle.std.specs.Prelude.{◌≡◌, ℕ, ◌<◌, List, [], ◌∷◌, Option, Some, None, Result, Ok, Err, All, true, map, ◌⊎◌}
 use Rattle.std.specs.List.{sum_by, AllByRecursion}
 use Rattle.std.specs.Global.{Vec}
+use Rattle.std.specs.Arc.{arc_value}
 use Rattle.xet_types.specs.declared.error.ClientError.{ClientError}
 use Rattle.xet_types.specs.declared.error.ClientError.TheVariants.{FormatError, InvalidRange, InvalidArguments, FileNotFound, XORBNotFound, PresignedUrlExpirationError, IOError, Other, InvalidKey, CacheError, HttpStatus, OutOfMemory}
 use Rattle.xet_types.specs.declared.error.FormatFault.TheVariants.{Xorb as AtXorb, Segment as AtSegment}
@@ -10,6 +11,7 @@ use Rattle.xet_xorb.specs.Values.{Xorb}
 use Rattle.xet_xorb.specs.Lengths.{packed_before}
 use Rattle.xet_shard.specs.declared.listing.Segment.{Segment}
 use Rattle.xet_plan.specs.declared.place.Cut.{Cut}
+use Rattle.xet_plan.specs.declared.place.Recent.{Recent}
 use Rattle.xet_plan.specs.Places.{Interval, Placed, Known, agrees, fault, met_segments, first_fault}
 use Rattle.xet_plan.specs.MetChunks.{Chunk, span, kept}
 
@@ -44,6 +46,11 @@ pub record IsReadable (known : Known) (p : Placed) : Type 0 where
   pub agrees : agrees p.segment xorb ≡ true
   pub nonempty : All (λ n. 0 < n) xorb.lengths
 
+-- the recent object, if there is one, is that of its hash
+abbrev pub IsRecent : Known → Option Recent → Type 0
+IsRecent known None = Unit {0}
+IsRecent known (Some recent) = known recent.hash ≡ Some (arc_value recent.object)
+
 -- what a met segment gives
 abbrev pub CutAnswer : Known → Interval → Placed → Result Cut ClientError → Type 0
 CutAnswer known clip p (Ok cut) = IsReadable known p × (cut ≡ cut_at known clip p)
@@ -76,17 +83,22 @@ CutsAnswer known clip segments (Err (InvalidKey text)) = ⊥
 CutsAnswer known clip segments (Err (CacheError text)) = ⊥
 CutsAnswer known clip segments (Err (HttpStatus status)) = ⊥
 
--- the refusals of a met segment, whatever is told: those of its footer, and that it disagrees with its xorb
-abbrev pub IsCutRefusal : ClientError → Type 0
-IsCutRefusal (FormatError f) = (f ≡ AtXorb) ⊎ (f ≡ AtSegment)
-IsCutRefusal (XORBNotFound h) = Unit {0}
-IsCutRefusal IOError = Unit {0}
-IsCutRefusal OutOfMemory = Unit {0}
-IsCutRefusal InvalidRange = ⊥
-IsCutRefusal InvalidArguments = ⊥
-IsCutRefusal (FileNotFound h) = ⊥
-IsCutRefusal PresignedUrlExpirationError = ⊥
-IsCutRefusal (Other text) = ⊥
-IsCutRefusal (InvalidKey text) = ⊥
-IsCutRefusal (CacheError text) = ⊥
-IsCutRefusal (HttpStatus status) = ⊥
+-- the xorb is that of one of these segments
+abbrev pub Names : List Placed → List ℕ → Type 0
+Names [] h = ⊥
+Names (p ∷ ps) h = (p.segment.xorb_hash ≡ h) ⊎ Names ps h
+
+-- the refusals of the met segments, whatever is told: those of their footers, and that one disagrees with its xorb
+abbrev pub IsPlanRefusal : Interval → List Segment → ClientError → Type 0
+IsPlanRefusal clip segments (FormatError f) = (f ≡ AtXorb) ⊎ (f ≡ AtSegment)
+IsPlanRefusal clip segments (XORBNotFound h) = Names (met_segments clip segments) h
+IsPlanRefusal clip segments IOError = Unit {0}
+IsPlanRefusal clip segments OutOfMemory = Unit {0}
+IsPlanRefusal clip segments InvalidRange = ⊥
+IsPlanRefusal clip segments InvalidArguments = ⊥
+IsPlanRefusal clip segments (FileNotFound h) = ⊥
+IsPlanRefusal clip segments PresignedUrlExpirationError = ⊥
+IsPlanRefusal clip segments (Other text) = ⊥
+IsPlanRefusal clip segments (InvalidKey text) = ⊥
+IsPlanRefusal clip segments (CacheError text) = ⊥
+IsPlanRefusal clip segments (HttpStatus status) = ⊥

@@ -1,6 +1,8 @@
 -- The bytes of a file, over any map from hashes to chunk lists.
 use Rattle.std.specs.Prelude.{◌≡◌, ℕ, ◌-◌, List, [], ◌∷◌, length, map, take, drop, slice_range, Option, Some, None}
 use Rattle.std.specs.List.{flat_map, concat}
+use Rattle.xet_types.specs.declared.range.Range.{Range}
+use Rattle.xet_types.specs.declared.range._F.{_F}
 use Rattle.xet_types.specs.declared.record.XorbReconstructionTerm.{XorbReconstructionTerm}
 use Rattle.xet_xorb.specs.Values.{Xorb}
 use Rattle.xet_shard.specs.declared.listing.Segment.{Segment}
@@ -43,6 +45,11 @@ term_bytes content t = concat (chunks_between (content t.hash) t.range.start t.r
 -- the terms joined, less the offset, cut to a length
 abbrev pub assembled : Content → List XorbReconstructionTerm → ℕ → ℕ → List ℕ
 assembled content terms offset length = take length (drop offset (flat_map (term_bytes content) terms))
+
+-- how long a range is, however far the file reaches; no range is as long as what it reaches
+abbrev pub asked_length : Option (Range ℕ _F) → Interval → ℕ
+asked_length None clip = clip.end - clip.start
+asked_length (Some range) clip = range.end - range.start
 
 -- each known xorb has the chunks of the content
 abbrev pub Describes : Known → Content → Type 0

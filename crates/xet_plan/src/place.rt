@@ -2,11 +2,14 @@
 ghost use Rattle.std.specs.Prelude.{◌≡◌, ℕ, ◌+◌, ◌^◌, ◌<◌, ◌≤◌, min, max, List, true, filter, slice_range, slice_index, sum, length, Some, All, IfOk, IfErr};
 ghost use Rattle.xet_plan.specs.Places.{Interval, interval, place as placed_at, Known, agrees, lengths_in, reach};
 ghost use Rattle.xet_plan.specs.MetChunks.{lay, is_met};
-ghost use Rattle.xet_plan.specs.Cuts.{cut_from, CutAnswer, IsCutRefusal};
-ghost use Rattle.xet_plan.specs.Footers.{FailsOnlyByFault};
+ghost use Rattle.xet_types.specs.declared.error.FormatFault.TheVariants.{Segment as AtSegment};
+ghost use Rattle.xet_types.specs.declared.error.ClientError.TheVariants.{FormatError};
+ghost use Rattle.xet_plan.specs.Cuts.{cut_from, CutAnswer, IsRecent};
+ghost use Rattle.xet_plan.specs.Footers.{Gives, IsFooterRefusal, FailsOnlyByFault};
 
 use crate::footers::Footers;
 use std::alloc::Global;
+use std::sync::Arc;
 use xet_shard::Segment;
 use xet_types::{ClientError, FileRange, FormatFault, MerkleHash};
 use xet_xorb::XorbObject;
@@ -100,26 +103,29 @@ fn skip(object: &XorbObject, first: u32, end: u32, place: u64, clip_start: u64) 
     (start, at)
 }
 
-/// Past the last of the chunks first..end that begins before a place, and where it ends.
+/// Past the last of the chunks first..end that begins before a place.
 #[tactic(auto, using(crate::proofs::Lay::sum_more, crate::proofs::Lay::sum_range_first, crate::proofs::Lay::sum_range_last))]
-fn run(object: &XorbObject, first: u32, end: u32, at: u64, clip_end: u64) -> (u32, u64)
+fn run(object: &XorbObject, first: u32, end: u32, at: u64, clip_end: u64) -> u32
     requires order { first ≤ end }
     requires inside { end ≤ length object.now.lengths }
     requires nonempty { All (λ n. 0 < n) object.now.lengths }
     requires fits { at + sum (slice_range object.now.lengths first end) < 2 ^ 64 }
-    ensures from { first ≤ result.0 }
-    ensures to { result.0 ≤ end }
-    ensures at { result.1 ≡ at + sum (slice_range object.now.lengths first result.0) }
-    ensures some { first < end → at < clip_end → first < result.0 }
-    ensures chunks { (h : List ℕ) (clip : Interval) → clip.end ≡ clip_end → clip.start < clip.end → (first < end → clip.start < at + slice_index object.now.lengths first) → filter (is_met clip) (lay h first at (slice_range object.now.lengths first end)) ≡ lay h first at (slice_range object.now.lengths first result.0) }
+    ensures from { first ≤ result }
+    ensures to { result ≤ end }
+    ensures some { first < end → at < clip_end → first < result }
+    ensures chunks { (h : List ℕ) (clip : Interval) → clip.end ≡ clip_end → clip.start < clip.end → (first < end → clip.start < at + slice_index object.now.lengths first) → filter (is_met clip) (lay h first at (slice_range object.now.lengths first end)) ≡ lay h first at (slice_range object.now.lengths first result) }
 {
+    let length = object.unpacked_before(end) - object.unpacked_before(first);
+    if at + u64::from(length) <= clip_end {
+        return end;
+    }
     let mut last = first;
     let mut to = at;
     while last < end && to < clip_end {
         to += u64::from(object.unpacked_before(last + 1) - object.unpacked_before(last));
         last += 1;
     }
-    (last, to)
+    last
 }
 
 /// The chunks of an agreeing segment that lie in the interval.
@@ -138,7 +144,7 @@ fn narrow(object: &XorbObject, segment: &Segment, place: u64, clip_start: u64, c
         place,
         clip_start,
     );
-    let (end, _) = run(object, start, segment.chunk_index_end, at, clip_end);
+    let end = run(object, start, segment.chunk_index_end, at, clip_end);
     Cut {
         hash: segment.xorb_hash,
         start,
@@ -150,28 +156,52 @@ fn narrow(object: &XorbObject, segment: &Segment, place: u64, clip_start: u64, c
     }
 }
 
-/// The chunks of a segment at a place that lie in the interval. Its footer is asked once, and its refusal is the answer;
-/// `FormatError(Segment)` where the segment disagrees with its xorb.
-pub fn cut_of<F: Footers>(
-    alloc: Global,
+/// The chunks of a segment at a place that lie in the interval. `FormatError(Segment)` exactly where the segment disagrees with
+/// its xorb, of which this is the object.
+pub fn cut_of(
+    object: &XorbObject,
     segment: &Segment,
     place: u64,
     clip_start: u64,
     clip_end: u64,
-    footers: &mut F,
 ) -> Result<Cut, ClientError>
     requires fits { place + segment.now.unpacked_segment_bytes < 2 ^ 64 }
     requires meets { max clip_start place < min clip_end (place + segment.now.unpacked_segment_bytes) }
-    ensures answer { (known : Known) → F.told footers.old ≡ Some known → CutAnswer known (interval clip_start clip_end) (placed_at place segment.now) result }
+    ensures answer { (known : Known) → known segment.now.xorb_hash ≡ Some object.now → CutAnswer known (interval clip_start clip_end) (placed_at place segment.now) result }
     ensures nonempty { IfOk result (λ cut. cut.start < cut.end) }
-    ensures refusals { IfErr result IsCutRefusal }
-    ensures stays { F.told footers.new ≡ F.told footers.old }
-    ensures cause { FailsOnlyByFault (F.faults footers.old) (F.faults footers.new) result }
+    ensures refusals { IfErr result (λ e. e ≡ FormatError AtSegment) }
 {
-    let footer = footers.footer(alloc, &segment.xorb_hash)?;
-    let object: &XorbObject = &footer;
     if !is_agreed(object, segment) {
         return Err(ClientError::FormatError(FormatFault::Segment));
     }
     Ok(narrow(object, segment, place, clip_start, clip_end))
+}
+
+/// The object of a xorb, with its hash.
+#[derive(Debug, Drop)]
+pub struct Recent {
+    /// The xorb.
+    pub hash: MerkleHash,
+    /// What is known of it.
+    pub object: Arc<XorbObject>,
+}
+
+/// The object of the xorb of this hash: the recent one where it is that, else what the footers answer, which are asked once.
+pub fn object_of<F: Footers>(
+    alloc: Global,
+    hash: &MerkleHash,
+    recent: Option<Recent>,
+    footers: &mut F,
+) -> Result<Arc<XorbObject>, ClientError>
+    ensures answer { (known : Known) → F.told footers.old ≡ Some known → IsRecent known recent → Gives known hash.now result }
+    ensures refusals { IfErr result (IsFooterRefusal hash.now) }
+    ensures stays { F.told footers.new ≡ F.told footers.old }
+    ensures cause { FailsOnlyByFault (F.faults footers.old) (F.faults footers.new) result }
+{
+    if let Some(last) = recent {
+        if last.hash == *hash {
+            return Ok(last.object);
+        }
+    }
+    footers.footer(alloc, hash)
 }

@@ -3,12 +3,12 @@ ghost use Rattle.std.specs.Prelude.{◌≡◌, ℕ, ◌^◌, ◌<◌, length, So
 ghost use Rattle.xet_shard.specs.Values.{size_of};
 ghost use Rattle.xet_plan.specs.Places.{Known, interval, reach};
 ghost use Rattle.xet_plan.specs.Footers.{FailsOnlyByFault};
-ghost use Rattle.xet_plan.specs.Cuts.{CutsAnswer, IsCutRefusal};
-ghost use Rattle.xet_plan.specs.Merging.{NoneEmpty};
+ghost use Rattle.xet_plan.specs.Cuts.{CutsAnswer, IsPlanRefusal};
+ghost use Rattle.xet_plan.specs.Merging.{NoneEmpty, ranges_shown};
 ghost use Rattle.xet_plan.specs.Answers.{Answers, Places, PlanAnswer, PlansLeast, PlansBytes, IsPlanOf, cut_offset, cut_term};
 
 use crate::footers::Footers;
-use crate::place::{Cut, Reach, cut_of, reach_of};
+use crate::place::{Cut, Reach, Recent, cut_of, object_of, reach_of};
 use crate::runs::{MergedRange, runs_of};
 use std::alloc::Global;
 use std::marker::Model;
@@ -16,6 +16,7 @@ use xet_shard::{FileListing, Segment};
 use xet_types::{
     ChunkRange, ClientError, FileRange, MerkleHash, OutOfMemory, XorbReconstructionTerm,
 };
+use xet_xorb::XorbObject;
 
 /// What to fetch for a range of a file, and how to put it together. Contracts compare plans by their contents.
 #[derive(Debug, Drop)]
@@ -38,7 +39,36 @@ impl Model for Plan {
     ghost view = { λ p. record { offset_into_first_range = p.offset_into_first_range; terms = p.terms.items; merged = map ranges_shown p.merged.items } };
 }
 
-/// What the bytes from a start up to an end take of each segment that they meet, in file order.
+impl Plan {
+    /// A copy.
+    pub fn clone(&self, alloc: Global) -> Result<Plan, OutOfMemory>
+        ensures { IfOk result (λ plan. plan ≡ self.now) }
+    {
+        let terms = Vec::from_slice(alloc, &self.terms)?;
+        let merged = copy_of(alloc, &self.merged)?;
+        Ok(Plan {
+            offset_into_first_range: self.offset_into_first_range,
+            terms,
+            merged,
+        })
+    }
+}
+
+fn copy_of(
+    alloc: Global,
+    merged: &[(MerkleHash, Vec<MergedRange>)],
+) -> Result<Vec<(MerkleHash, Vec<MergedRange>)>, OutOfMemory>
+    ensures { IfOk result (λ v. map ranges_shown v.items ≡ map ranges_shown merged.now) }
+{
+    let mut copy = Vec::with_capacity(alloc, merged.len())?;
+    for (hash, ranges) in merged {
+        copy.push((*hash, Vec::from_slice(alloc, ranges)?))?;
+    }
+    Ok(copy)
+}
+
+/// What the bytes from a start up to an end take of each segment that they meet, in file order. The footers are asked once for
+/// neighbouring segments of one xorb.
 fn cuts_of<F: Footers>(
     alloc: Global,
     segments: &[Segment],
@@ -49,11 +79,12 @@ fn cuts_of<F: Footers>(
     requires few { length segments.now < 2 ^ 32 }
     ensures answer { (known : Known) → F.told footers.old ≡ Some known → CutsAnswer known (interval start end) segments.now result }
     ensures nonempty { IfOk result (λ cuts. NoneEmpty cuts.items) }
-    ensures refusals { IfErr result IsCutRefusal }
+    ensures refusals { IfErr result (IsPlanRefusal (interval start end) segments.now) }
     ensures stays { F.told footers.new ≡ F.told footers.old }
     ensures cause { FailsOnlyByFault (F.faults footers.old) (F.faults footers.new) result }
 {
     let mut cuts = Vec::new(alloc);
+    let mut recent: Option<Recent> = None;
     let mut at: u64 = 0;
     for segment in segments {
         let place = at;
@@ -61,8 +92,14 @@ fn cuts_of<F: Footers>(
         if start.max(place) >= end.min(at) {
             continue;
         }
-        let cut = cut_of(alloc, segment, place, start, end, footers)?;
+        let object = object_of(alloc, &segment.xorb_hash, recent, footers)?;
+        let shared: &XorbObject = &object;
+        let cut = cut_of(shared, segment, place, start, end)?;
         cuts.push(cut)?;
+        recent = Some(Recent {
+            hash: segment.xorb_hash,
+            object,
+        });
     }
     Ok(cuts)
 }
@@ -115,7 +152,7 @@ fn plan_within<F: Footers>(
 ) -> Result<Plan, ClientError>
     requires few { length segments.now < 2 ^ 32 }
     ensures answer { (known : Known) → F.told footers.old ≡ Some known → PlanAnswer known (interval start end) segments.now result }
-    ensures refusals { IfErr result IsCutRefusal }
+    ensures refusals { IfErr result (IsPlanRefusal (interval start end) segments.now) }
     ensures stays { F.told footers.new ≡ F.told footers.old }
     ensures cause { FailsOnlyByFault (F.faults footers.old) (F.faults footers.new) result }
 {
@@ -136,7 +173,7 @@ pub fn compute_reconstruction_ranges<F: Footers>(
     bytes_range: Option<FileRange>,
     footers: &mut F,
 ) -> Result<Option<Plan>, ClientError>
-    ensures place { Places (reach (size_of listing.now.segments) bytes_range) result }
+    ensures place { Places listing.now.segments bytes_range result }
     ensures answer { (known : Known) → F.told footers.old ≡ Some known → Answers known listing.now.segments bytes_range result }
     ensures least { (known : Known) → F.told footers.old ≡ Some known → PlansLeast known listing.now.segments bytes_range result }
     ensures bytes { (known : Known) → F.told footers.old ≡ Some known → PlansBytes known listing.now.segments bytes_range result }
@@ -154,3 +191,6 @@ pub fn compute_reconstruction_ranges<F: Footers>(
         }
     }
 }
+
+#[cfg(test)]
+mod tests;

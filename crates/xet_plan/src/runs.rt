@@ -58,7 +58,7 @@ fn in_order(alloc: Global, cuts: &[Cut]) -> Result<Vec<Cut>, OutOfMemory>
 fn merge(alloc: Global, sorted: &[Cut]) -> Result<Vec<Cut>, OutOfMemory>
     ensures { IfOk result (λ v. v.items ≡ merged sorted.now) }
 {
-    let mut done = Vec::new(alloc);
+    let mut done = Vec::with_capacity(alloc, sorted.len())?;
     let Some((first, rest)) = sorted.split_first() else {
         return Ok(done);
     };

@@ -7,14 +7,14 @@ use Rattle.std.proofs.lemmas.Bool.{cases_lt}
 use Rattle.xet_plan.proofs.place.narrow.Goals as goal
 
 pub overflow_sub-result : goal.overflow_sub-result
-overflow_sub-result c = omega (arith, sum-range c.args.object.now.lengths c.skip-start.result.0 c.run-end.result.0 (omega arith))
+overflow_sub-result c = omega (arith, sum-range c.args.object.now.lengths c.skip-start.result.0 c.run-end.result (omega arith))
 
 pub returns-clause-value : goal.returns-clause-value
 returns-clause-value c =
     let xs = c.args.object.now.lengths in
     let h = c.args.segment.now.xorb_hash in
     let s = c.skip-start.result.0 in
-    let e = c.run-end.result.0 in
+    let e = c.run-end.result in
     let at = c.skip-start.result.1 in
     let to = c.args.segment.now.chunk_index_end in
     let clip = interval c.args.clip_start c.args.clip_end in

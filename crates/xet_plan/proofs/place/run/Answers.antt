@@ -1,8 +1,20 @@
 use Rattle.std.proofs.Common.{◌≡◌, ◌∙◌, ◌+◌, ◌<◌, sum, take, slice_range, arith, sym, ap, get_or, List, filter, [], ◌++◌}
 use Rattle.std.proofs.lemmas.List.{append-nil}
 use Rattle.xet_plan.specs.MetChunks.{Chunk, lay, is_met}
-use Rattle.xet_plan.proofs.Lay.{sum_range_first, sum_range_last, sum_more, run_more, is_met-yes, none_past, run_past}
+use Rattle.xet_plan.proofs.Lay.{sum-range, all_met, sum_range_first, sum_range_last, sum_more, run_more, is_met-yes, none_past, run_past}
 use Rattle.xet_plan.proofs.place.run.Goals as goal
+
+pub overflow_sub-length : goal.overflow_sub-length
+overflow_sub-length c = omega (arith, sum-range c.args.object.now.lengths c.args.first c.args.end (omega arith))
+
+pub overflow_add-at : goal.overflow_add-at
+overflow_add-at c = omega (arith, sum-range c.args.object.now.lengths c.args.first c.args.end (omega arith))
+
+-- all of them lie before the interval's end
+pub returns-then-at-from-clause-chunks : goal.returns-then-at-from-clause-chunks
+returns-then-at-from-clause-chunks c = λ h clip e o p.
+    let xs = c.args.object.now.lengths in
+    all_met clip h xs c.args.first c.args.end c.args.at (omega arith) (omega arith) c.requires.nonempty o p (omega (arith, sum-range xs c.args.first c.args.end (omega arith)))
 
 pub loop-last-preserved : goal.loop-last-preserved
 loop-last-preserved c =

@@ -1,7 +1,8 @@
 use Rattle.std.proofs.Common.{◌≡◌, ◌*◌, ◌≤◌, drop, Some}
 use Rattle.xet_plan.specs.Places.{Known, interval}
 use Rattle.xet_plan.specs.Merging.{NoneEmpty}
-use Rattle.xet_plan.proofs.SoFar.{SoFar}
+use Rattle.xet_plan.specs.Cuts.{IsRecent}
+use Rattle.xet_plan.proofs.SoFar.{SoFar, NamedSoFar}
 use Rattle.xet_plan.proofs.planner.cuts_of.Given as goal
 
 abbrev pub invariant-loop-segment : goal.invariant-loop-segment
@@ -11,3 +12,5 @@ invariant-loop-segment g l =
     × (g.F.Footers.faults l.fn.footers ≤ g.F.Footers.faults l.footers)
     × ((known : Known) → g.F.Footers.told l.fn.footers ≡ Some known → SoFar known (interval l.start l.end) l.segments l.at (drop l.segment-index l.segments) l.cuts.items)
     × NoneEmpty l.cuts.items
+    × ((known : Known) → g.F.Footers.told l.fn.footers ≡ Some known → IsRecent known l.recent)
+    × NamedSoFar (interval l.start l.end) l.segments l.at (drop l.segment-index l.segments)
