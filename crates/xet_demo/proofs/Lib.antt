@@ -1,3 +1,4 @@
 pub mod Numbers
 pub mod Cuts
 pub mod Steps
+pub mod Printing

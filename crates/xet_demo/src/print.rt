@@ -1,0 +1,2 @@
+//! Replies as text.
+pub mod page;
