@@ -2,3 +2,4 @@ pub mod Numbers
 pub mod Cuts
 pub mod Steps
 pub mod Printing
+pub mod OneWord

@@ -1,19 +1,14 @@
 -- Text that is printed piece after piece.
-use Rattle.std.proofs.Common.{◌≡◌, ℕ, ◌+◌, ◌-◌, ◌≤◌, ◌<◌, List, [], ◌∷◌, ◌++◌, length, take, drop, Bool, true, false, Option, Some, None, refl, sym, ap, subst, ◌∙◌, append_assoc, arith}
+use Rattle.std.proofs.Common.{◌≡◌, ℕ, ◌+◌, ◌-◌, ◌≤◌, List, [], ◌∷◌, ◌++◌, length, take, drop, true, false, Option, refl, sym, ap, subst, ◌∙◌, append_assoc, arith}
 use Rattle.std.specs.Io.KnownBytes.{Appends}
+use Rattle.std.proofs.KnownBytes.{Appends-nil, Appends-trans}
 use Rattle.std.proofs.Math.Seq.{take-add}
 use Rattle.std.proofs.lemmas.Bool.{false≢true}
-use Rattle.std.proofs.lemmas.List.{take-take, take_all, append-nil, take-append-drop, drop-set, length-set, length-drop}
+use Rattle.std.proofs.lemmas.List.{take-take, take_all, append-nil, take-append-drop, take-append-le, length-append, drop-set, length-set, length-drop}
 use Rattle.std.specs.Prelude.{slice_set}
 use Rattle.hex.specs.Hex.{encode_with}
 use Rattle.xet_types.specs.Faults.{Rose}
-use Rattle.xet_demo.specs.Pages.{Output, Holds, Prints, WritesFront, PageText, output, with_text}
-
-pub appended : (old mid new : Option (List ℕ)) (a b : List ℕ) → Appends old mid a → Appends mid new b → Appends old new (a ++ b)
-appended None mid new a b p q = tt
-appended (Some xs) None new a b p q = absurd p
-appended (Some xs) (Some ys) None a b p q = absurd q
-appended (Some xs) (Some ys) (Some zs) a b p q = q ∙ ap (λ (t : List ℕ). t ++ b) p ∙ append_assoc xs a b
+use Rattle.xet_demo.specs.Pages.{Output, Holds, Prints, WritesFront, PageText, output, with_text, blank}
 
 pub next_piece : (text : List ℕ) (done count : ℕ) → count ≤ length text - done → take done text ++ take count (take (length text - done) (drop done text)) ≡ take (done + count) text
 next_piece text done count le = ap (λ (t : List ℕ). take done text ++ t) (take-take count (length text - done) (drop done text) le) ∙ sym (take-add done count text)
@@ -57,7 +52,7 @@ prints_written old new before now page unfailed appends same = record {
     written = h.written ++ page.text;
     rest = [];
     printed_is = append-nil printed ∙ h.printed_is ∙ ap (λ (t : List ℕ). h.written ++ t) (h.unfailed unfailed).0 ∙ sym (append-nil (h.written ++ page.text));
-    taken = appended start old new h.written page.text h.taken appends;
+    taken = Appends-trans start old new h.written page.text h.taken appends;
     rose = λ e. absurd (false≢true (sym unfailed ∙ e));
     unfailed = λ e. (refl, same ∙ (h.unfailed unfailed).1);
   };
@@ -72,7 +67,7 @@ prints_failed old new before now page unfailed front rose = record {
         written = h.written ++ take front.count page.text;
         rest = drop front.count page.text;
         printed_is = append-nil printed ∙ h.printed_is ∙ ap (λ (t : List ℕ). h.written ++ t) ((h.unfailed unfailed).0 ∙ whole) ∙ sym (append_assoc h.written (take front.count page.text) (drop front.count page.text));
-        taken = appended start old new h.written (take front.count page.text) h.taken front.appends;
+        taken = Appends-trans start old new h.written (take front.count page.text) h.taken front.appends;
         rose = λ e. subst (λ (n : ℕ). Rose n now) (h.unfailed unfailed).1 rose;
         unfailed = λ e. absurd (false≢true (sym e));
       };
@@ -96,3 +91,33 @@ number_digits digits text start first size some within is =
     let written = slice_set digits (start - 1) first in
     let enough : length (drop (start - 1) written) ≤ 20 - (start - 1) = omega (arith, length-drop (start - 1) written, length-set digits (start - 1) first, size) in
     take_all (20 - (start - 1)) (drop (start - 1) written) enough ∙ drop-set_before digits start first some (omega (arith, size, within)) ∙ is
+
+-- nothing is printed on a blank page
+pub holds_nothing : (taken : Option (List ℕ)) (faults : ℕ) → Holds taken faults [] (output taken faults blank)
+holds_nothing taken faults = record {
+  written = [];
+  rest = [];
+  printed_is = refl;
+  taken = Appends-nil taken;
+  rose = λ e. absurd (false≢true e);
+  unfailed = λ e. (refl, refl);
+}
+
+-- all that was printed is written, where the page is empty and the sink hasn't failed
+pub all_written : (start taken : Option (List ℕ)) (before faults : ℕ) (printed : List ℕ) (page : PageText) → Holds start before printed (output taken faults page) → page.text ≡ [] → page.failed ≡ false → Appends start taken printed × (faults ≡ before)
+all_written start taken before faults printed page h empty unfailed =
+    let goes_on = h.unfailed unfailed in
+    let whole : printed ≡ h.written = h.printed_is ∙ ap (λ (t : List ℕ). h.written ++ t) (goes_on.0 ∙ empty) ∙ append-nil h.written in
+    (subst (Appends start taken) (sym whole) h.taken, goes_on.1)
+
+-- a front of what was printed is written, where the sink has failed
+pub front_written : (start taken : Option (List ℕ)) (before faults : ℕ) (printed : List ℕ) (page : PageText) → Holds start before printed (output taken faults page) → page.failed ≡ true → WritesFront start taken printed × Rose before faults
+front_written start taken before faults printed page h failed =
+    let front : take (length h.written) printed ≡ h.written = ap (take (length h.written)) h.printed_is ∙ take-append-le (length h.written) h.written h.rest (omega arith) ∙ take_all (length h.written) h.written (omega arith) in (
+      record {
+        count = length h.written;
+        within = omega (arith, ap (λ (t : List ℕ). length t) h.printed_is, length-append h.written h.rest);
+        appends = subst (Appends start taken) (sym front) h.taken;
+      },
+      h.rose failed,
+    )

@@ -1,4 +1,4 @@
-use Rattle.std.proofs.Common.{List, ℕ, [], true, sym, subst, ◌∙◌}
+use Rattle.std.proofs.Common.{List, ℕ, [], true, sym, subst}
 use Rattle.xet_demo.specs.Pages.{Prints, WritesFront, PageText, output}
 use Rattle.xet_demo.proofs.Printing.{prints_failed}
 use Rattle.xet_demo.proofs.print.page.Page.flush.Goals as goal

@@ -1,6 +1,5 @@
-use Rattle.std.proofs.Common.{◌≡◌, ◌++◌, List, ℕ, ap, sym, subst, ◌∙◌, take, drop}
-use Rattle.std.proofs.lemmas.List.{take-append-drop}
-use Rattle.xet_demo.specs.Pages.{Output, Prints, PageText, output, with_text}
+use Rattle.std.proofs.Common.{◌≡◌, ◌++◌, List, ℕ, sym, subst}
+use Rattle.xet_demo.specs.Pages.{Prints, PageText, output}
 use Rattle.xet_demo.proofs.Printing.{prints_then, prints_on_page}
 use Rattle.xet_demo.proofs.print.page.Page.put_long.Goals as goal
 

@@ -1,4 +1,4 @@
-use Rattle.std.proofs.Common.{◌≡◌, List, ℕ, [], length}
+use Rattle.std.proofs.Common.{◌≡◌, [], length}
 use Rattle.xet_demo.specs.Pages.{Output, Prints, output}
 use Rattle.xet_demo.proofs.print.page.Page.put_long.Given as goal
 

@@ -1,9 +1,7 @@
-use Rattle.std.proofs.Common.{lit<, refl, ◌≡◌, ◌≤◌, ◌<◌, ◌+◌, ◌-◌, ◌/◌, ◌%◌, ◌^◌, ◌∷◌, [], ◌++◌, List, ℕ, length, take, drop, ap, sym, subst, ◌∙◌, append_assoc, arith}
-use Rattle.std.specs.Prelude.{slice_set}
+use Rattle.std.proofs.Common.{lit<, refl, ◌≡◌, ◌≤◌, ◌<◌, ◌+◌, ◌-◌, ◌/◌, ◌%◌, ◌^◌, ◌∷◌, [], ◌++◌, List, ℕ, length, drop, ap, sym, ◌∙◌, append_assoc, arith}
 use Rattle.std.specs.Fmt.{decimal}
 use Rattle.std.proofs.lemmas.Fmt.{decimal_step, decimal_digit, decimal_nonempty, length-decimal-le}
 use Rattle.std.proofs.lemmas.List.{append-nil, length-append, length-set}
-use Rattle.xet_demo.specs.Pages.{Prints, output}
 use Rattle.xet_demo.proofs.Printing.{drop-set_before, number_digits}
 use Rattle.xet_demo.proofs.print.page.Page.put_number.Goals as goal
 
