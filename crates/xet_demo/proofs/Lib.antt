@@ -1,3 +1,5 @@
 pub mod Numbers
 pub mod Cuts
 pub mod Steps
+pub mod Printing
+pub mod OneWord

@@ -1,3 +1,6 @@
 pub mod Words
 pub mod Lines
 pub mod Script
+pub mod Pages
+pub mod Printed
+pub mod TopCall

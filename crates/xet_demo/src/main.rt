@@ -1,6 +1,78 @@
-//! Runs a script over a chunk store in memory.
+//! `xet_demo` runs a script over a chunk store, and prints what each of its commands answers.
 #![tactic(auto)]
 
+pub mod print;
+pub mod run;
 pub mod script;
+pub mod words;
 
-fn main(_rt: HostRuntime) {}
+use run::{Status, run_script};
+use std::env::Env;
+use std::io::ErrorKind;
+use std::process::ExitCode;
+use std::{env, io};
+use words::Question;
+use xet_types::{StdSink, StdSource};
+
+const VERSION: &str = "xet_demo 0.1.0";
+
+const HELP: &str = "\
+Reads a script from standard input, runs its commands over an empty chunk store in memory, and prints
+what each of them answers. A line is a moment in milliseconds, a command and its words:
+
+  MOMENT xorb HASH BYTES    stores a xorb
+  MOMENT shard BYTES        accepts a shard
+  MOMENT plan1 FILE RANGE   opens a read of a file; RANGE is `all` or START-END
+  MOMENT fetch READ LINK    fetches a link of a read
+
+  --help     prints this
+  --version  prints the version";
+
+/// The words behind the program's name.
+fn command_line<R: Env + AllocGlobal>(rt: &R) -> Result<Vec<String>, Status> {
+    let all = match env::args(rt) {
+        Ok(all) => all,
+        Err(e) if e.kind() == ErrorKind::OutOfMemory => return Err(Status::OutOfMemory),
+        Err(_) => return Err(Status::Usage),
+    };
+    let mut words = Vec::new(rt.alloc());
+    for word in all.skip(1) {
+        if words.push(word).is_err() {
+            return Err(Status::OutOfMemory);
+        }
+    }
+    Ok(words)
+}
+
+/// Prints what is asked about the program.
+fn answer<R: Print>(rt: &R, question: Question) -> Status {
+    let printed = match question {
+        Question::Help => println!(rt; "{}\n\n{HELP}", Status::Usage),
+        Question::Version => println!(rt; "{VERSION}"),
+    };
+    match printed {
+        Ok(()) => Status::Done,
+        Err(_) => Status::WriteFault,
+    }
+}
+
+/// Runs the program with these words.
+fn call<R: Input + Print + AllocGlobal>(rt: &R, words: &[String]) -> Status {
+    if let Some(question) = words::asked(words) {
+        return answer(rt, question);
+    }
+    let mut source = StdSource::new(rt.reader());
+    let mut sink = StdSink::new(io::writer(rt));
+    run_script(rt.alloc(), words, &mut source, &mut sink)
+}
+
+fn main(rt: HostRuntime) -> ExitCode {
+    let status = match command_line(&rt) {
+        Ok(words) => call(&rt, &words),
+        Err(status) => status,
+    };
+    if status != Status::Done {
+        let _ = eprintln!(rt; "{status}");
+    }
+    ExitCode::from(status.exit())
+}

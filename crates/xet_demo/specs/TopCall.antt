@@ -1,0 +1,155 @@
+-- How a call of the program ends.
+use Rattle.std.specs.Prelude.{◌≡◌, ℕ, ◌+◌, ◌<◌, ◌≤◌, List, [], ◌∷◌, length, Option, Result, Ok, Err, codes}
+use Rattle.std.specs.Io.KnownBytes.{Consumes, IsAtEnd, Appends}
+use Rattle.std.specs.Global.{Vec}
+use Rattle.xet_types.specs.Faults.{Rose}
+use Rattle.xet_service.specs.declared.step.Step.{Step}
+use Rattle.xet_service.specs.declared.reply.Reply.{Reply}
+use Rattle.xet_demo.specs.Script.{lines_of, AreStepsOf, IsFirstBad}
+use Rattle.xet_demo.specs.Pages.{WritesFront}
+use Rattle.xet_demo.specs.Printed.{replies_text}
+use Rattle.xet_demo.specs.declared.run.Status.{Status}
+use Rattle.xet_demo.specs.declared.run.Status.TheVariants.{Done, Usage, BadLine, ReadFault, WriteFault, TooLong, OutOfMemory}
+
+-- the words are the one word `memory`
+abbrev pub IsMemory : List (List ℕ) → Type 0
+IsMemory words = words ≡ codes "memory" ∷ []
+
+-- the exit status of the process
+abbrev pub exit_of : Status → ℕ
+exit_of Done = 0
+exit_of Usage = 2
+exit_of (BadLine n) = 3
+exit_of ReadFault = 4
+exit_of WriteFault = 5
+exit_of TooLong = 6
+exit_of OutOfMemory = 9
+
+-- how many bytes a script may have, and how many are read at a time
+abbrev pub limit : ℕ
+limit = 67108864
+
+abbrev pub piece : ℕ
+piece = 65536
+
+-- the replies are those of a run of the steps
+abbrev pub Answered : List Step → List Reply → Type 0
+Answered steps replies = length replies ≡ length steps
+
+-- These bytes were read, they are all that the source had and no more than the limit, and no call failed.
+pub record WasRead (old new : Option (List ℕ)) (before now : ℕ) (script : List ℕ) : Type 0 where
+  pub consumed : Consumes old new script
+  pub ended : IsAtEnd new
+  pub short : length script ≤ limit
+  pub faults : now ≡ before
+
+-- No more than the limit was read when a call failed.
+pub record FailsToRead (old new : Option (List ℕ)) (before now : ℕ) : Type 0 where
+  pub bytes : List ℕ
+  pub consumed : Consumes old new bytes
+  pub short : length bytes ≤ limit
+  pub rose : Rose before now
+
+-- More than the limit was read, by no more than one piece, and no call failed.
+pub record ReadsTooMuch (old new : Option (List ℕ)) (before now : ℕ) : Type 0 where
+  pub bytes : List ℕ
+  pub consumed : Consumes old new bytes
+  pub long : limit < length bytes
+  pub no_further : length bytes ≤ limit + piece
+  pub faults : now ≡ before
+
+-- Some bytes were read, more than the limit by no more than one piece, and no call failed.
+pub record ReadsSome (old new : Option (List ℕ)) (before now : ℕ) : Type 0 where
+  pub bytes : List ℕ
+  pub consumed : Consumes old new bytes
+  pub no_further : length bytes ≤ limit + piece
+  pub faults : now ≡ before
+
+-- The whole script is answered, or there is a cause.
+abbrev pub ReadsScript : Option (List ℕ) → Option (List ℕ) → ℕ → ℕ → Result (Vec ℕ) Status → Type 0
+ReadsScript old new before now (Ok v) = WasRead old new before now v.items
+ReadsScript old new before now (Err ReadFault) = FailsToRead old new before now
+ReadsScript old new before now (Err TooLong) = ReadsTooMuch old new before now
+ReadsScript old new before now (Err OutOfMemory) = ReadsSome old new before now
+ReadsScript old new before now (Err Done) = ⊥
+ReadsScript old new before now (Err Usage) = ⊥
+ReadsScript old new before now (Err (BadLine n)) = ⊥
+ReadsScript old new before now (Err WriteFault) = ⊥
+
+-- A script was read, and these are its steps.
+pub record ReadsStepsOf (old new : Option (List ℕ)) (before now : ℕ) (steps : List Step) : Type 0 where
+  pub script : List ℕ
+  pub read : WasRead old new before now script
+  pub parsed : AreStepsOf (lines_of script) steps
+
+-- A script was read, and this is its first line outside the grammar.
+pub record ReadsBadLine (old new : Option (List ℕ)) (before now : ℕ) (n : ℕ) : Type 0 where
+  pub script : List ℕ
+  pub read : WasRead old new before now script
+  pub bad : IsFirstBad (lines_of script) n
+
+-- The steps of the whole script are answered, or there is a cause.
+abbrev pub ReadsSteps : Option (List ℕ) → Option (List ℕ) → ℕ → ℕ → Result (Vec Step) Status → Type 0
+ReadsSteps old new before now (Ok v) = ReadsStepsOf old new before now v.items
+ReadsSteps old new before now (Err (BadLine n)) = ReadsBadLine old new before now n
+ReadsSteps old new before now (Err ReadFault) = FailsToRead old new before now
+ReadsSteps old new before now (Err TooLong) = ReadsTooMuch old new before now
+ReadsSteps old new before now (Err OutOfMemory) = ReadsSome old new before now
+ReadsSteps old new before now (Err Done) = ⊥
+ReadsSteps old new before now (Err Usage) = ⊥
+ReadsSteps old new before now (Err WriteFault) = ⊥
+
+-- The text was written, or a front of it and the sink's count rose, or nothing.
+abbrev pub WritesText : Option (List ℕ) → Option (List ℕ) → ℕ → ℕ → List ℕ → Status → Type 0
+WritesText old new before now text Done = Appends old new text × (now ≡ before)
+WritesText old new before now text WriteFault = WritesFront old new text × Rose before now
+WritesText old new before now text OutOfMemory = (new ≡ old) × (now ≡ before)
+WritesText old new before now text Usage = ⊥
+WritesText old new before now text (BadLine n) = ⊥
+WritesText old new before now text ReadFault = ⊥
+WritesText old new before now text TooLong = ⊥
+
+-- the bytes that the source has left and that the sink has taken, where they are told, and how often each failed
+pub record Sides : Type 0 where
+  pub left : Option (List ℕ)
+  pub source_faults : ℕ
+  pub taken : Option (List ℕ)
+  pub sink_faults : ℕ
+
+abbrev pub sides : Option (List ℕ) → ℕ → Option (List ℕ) → ℕ → Sides
+sides left source_faults taken sink_faults = record { left = left; source_faults = source_faults; taken = taken; sink_faults = sink_faults }
+
+-- nothing was written, and no call of the sink failed
+pub record WritesNothing (old new : Sides) : Type 0 where
+  pub taken : new.taken ≡ old.taken
+  pub faults : new.sink_faults ≡ old.sink_faults
+
+-- The script was read, its steps were run, and these are their replies.
+pub record IsRun (answered : List Step → List Reply → Type 0) (old new : Sides) (replies : List Reply) : Type 0 where
+  pub steps : List Step
+  pub read : ReadsStepsOf old.left new.left old.source_faults new.source_faults steps
+  pub replies_are : answered steps replies
+
+-- The lines of the replies were written, and nothing else.
+pub record EndsDone (answered : List Step → List Reply → Type 0) (old new : Sides) : Type 0 where
+  pub replies : List Reply
+  pub ran : IsRun answered old new replies
+  pub written : Appends old.taken new.taken (replies_text replies)
+  pub faults : new.sink_faults ≡ old.sink_faults
+
+-- The sink failed when it had a front of the lines.
+pub record EndsUnwritten (answered : List Step → List Reply → Type 0) (old new : Sides) : Type 0 where
+  pub replies : List Reply
+  pub ran : IsRun answered old new replies
+  pub written : WritesFront old.taken new.taken (replies_text replies)
+  pub rose : Rose old.sink_faults new.sink_faults
+
+-- How a call ends, by its status: each has its cause.
+abbrev pub EndsSo : (List Step → List Reply → Type 0) → Sides → Sides → Status → Type 0
+EndsSo answered old new Done = EndsDone answered old new
+EndsSo answered old new Usage = new ≡ old
+EndsSo answered old new (BadLine n) = ReadsBadLine old.left new.left old.source_faults new.source_faults n × WritesNothing old new
+EndsSo answered old new ReadFault = FailsToRead old.left new.left old.source_faults new.source_faults × WritesNothing old new
+EndsSo answered old new WriteFault = EndsUnwritten answered old new
+EndsSo answered old new TooLong = ReadsTooMuch old.left new.left old.source_faults new.source_faults × WritesNothing old new
+EndsSo answered old new OutOfMemory = ReadsSome old.left new.left old.source_faults new.source_faults × WritesNothing old new

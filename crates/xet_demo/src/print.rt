@@ -1,0 +1,358 @@
+//! Replies as text.
+ghost use Rattle.std.specs.Prelude.{◌≡◌, codes};
+ghost use Rattle.std.specs.List.{flat_map};
+ghost use Rattle.xet_demo.specs.Pages.{Prints, output};
+ghost use Rattle.xet_demo.specs.Printed.{part_text, octets_text, truth_word, version_word, uploaded_line, shard_line, none_line, plan_line, term_line, terms_text, range_text, ranges_text, link_start, link_line, links_text, cache_word, note_text, fetched_start, finished_start, refusal_word, refusal_detail, refused_line, reply_text, replies_text};
+
+pub mod page;
+pub mod part;
+
+use page::Page;
+use part::{Part, print_parts};
+use xet_service::{CacheNote, CacheRefusal, PlanVersion, PlannedLink, Reply};
+use xet_types::{FormatFault, Octets, Refusal, Sink, XorbRangeDescriptor, XorbReconstructionTerm};
+
+fn truth_word(truth: bool) -> &'static [u8]
+    ensures { result.now ≡ truth_word truth }
+{
+    if truth { b"true" } else { b"false" }
+}
+
+fn version_word(version: PlanVersion) -> &'static [u8]
+    ensures { result.now ≡ version_word version }
+{
+    match version {
+        PlanVersion::V1 => b"v1",
+    }
+}
+
+fn cache_word(refused: &Option<CacheRefusal>) -> &'static [u8]
+    ensures { result.now ≡ cache_word refused.now }
+{
+    match refused {
+        None => b"none",
+        Some(CacheRefusal::General) => b"general",
+        Some(CacheRefusal::Io) => b"io",
+        Some(CacheRefusal::Parse) => b"parse",
+        Some(CacheRefusal::BadRange) => b"bad-range",
+        Some(CacheRefusal::InvalidArguments) => b"arguments",
+        Some(CacheRefusal::OutOfMemory) => b"memory",
+        Some(CacheRefusal::Disagrees) => b"disagrees",
+    }
+}
+
+fn refusal_word(refusal: &Refusal) -> &'static [u8]
+    ensures { result.now ≡ refusal_word refusal.now }
+{
+    match refusal {
+        Refusal::FormatError(FormatFault::Xorb) => b"format-xorb",
+        Refusal::FormatError(FormatFault::Shard) => b"format-shard",
+        Refusal::FormatError(FormatFault::Segment) => b"format-segment",
+        Refusal::FormatError(FormatFault::Table) => b"format-table",
+        Refusal::FormatError(FormatFault::Body) => b"format-body",
+        Refusal::InvalidRange => b"range",
+        Refusal::InvalidArguments => b"arguments",
+        Refusal::FileNotFound(_) => b"file ",
+        Refusal::XORBNotFound(_) => b"xorb ",
+        Refusal::PresignedUrlExpirationError => b"expired",
+        Refusal::IOError => b"io",
+        Refusal::Other => b"other",
+        Refusal::InvalidKey => b"key",
+        Refusal::CacheError => b"cache",
+        Refusal::HttpStatus(_) => b"status ",
+    }
+}
+
+/// What stands behind the first word of a refusal.
+fn refusal_detail(refusal: &Refusal) -> Part<'static>
+    ensures { part_text result ≡ refusal_detail refusal.now }
+{
+    match refusal {
+        Refusal::FileNotFound(hash) | Refusal::XORBNotFound(hash) => Part::Hash(*hash),
+        Refusal::HttpStatus(status) => Part::Number(u64::from(*status)),
+        _ => Part::Text(b""),
+    }
+}
+
+#[tactic(auto, unfolding(crate::specs::Printed::uploaded_line))]
+fn print_uploaded<K: Sink>(page: &mut Page, sink: &mut K, length: u64)
+    ensures { Prints (output (K.taken sink.old) (K.faults sink.old) page.old) (output (K.taken sink.new) (K.faults sink.new) page.new) (uploaded_line length) }
+{
+    let parts = [
+        Part::Text(b"xorb "),
+        Part::Number(length),
+        Part::Text(b"\n"),
+    ];
+    print_parts(page, sink, &parts);
+}
+
+#[tactic(auto, unfolding(crate::specs::Printed::term_line))]
+fn print_term<K: Sink>(page: &mut Page, sink: &mut K, term: &XorbReconstructionTerm)
+    ensures { Prints (output (K.taken sink.old) (K.faults sink.old) page.old) (output (K.taken sink.new) (K.faults sink.new) page.new) (term_line term.now) }
+{
+    let parts = [
+        Part::Text(b"term "),
+        Part::Hash(term.hash),
+        Part::Text(b" "),
+        Part::Number(u64::from(term.range.start)),
+        Part::Text(b"-"),
+        Part::Number(u64::from(term.range.end)),
+        Part::Text(b" "),
+        Part::Number(u64::from(term.unpacked_length)),
+        Part::Text(b"\n"),
+    ];
+    print_parts(page, sink, &parts);
+}
+
+#[tactic(auto, unfolding(crate::specs::Printed::shard_line))]
+fn print_shard<K: Sink>(page: &mut Page, sink: &mut K, taken: bool)
+    ensures { Prints (output (K.taken sink.old) (K.faults sink.old) page.old) (output (K.taken sink.new) (K.faults sink.new) page.new) (shard_line taken) }
+{
+    let parts = [
+        Part::Text(b"shard "),
+        Part::Text(truth_word(taken)),
+        Part::Text(b"\n"),
+    ];
+    print_parts(page, sink, &parts);
+}
+
+#[tactic(auto, unfolding(crate::specs::Printed::none_line))]
+fn print_none<K: Sink>(page: &mut Page, sink: &mut K)
+    ensures { Prints (output (K.taken sink.old) (K.faults sink.old) page.old) (output (K.taken sink.new) (K.faults sink.new) page.new) none_line }
+{
+    page.put(sink, b"none\n");
+}
+
+fn print_terms<K: Sink>(page: &mut Page, sink: &mut K, terms: &[XorbReconstructionTerm])
+    ensures { Prints (output (K.taken sink.old) (K.faults sink.old) page.old) (output (K.taken sink.new) (K.faults sink.new) page.new) (terms_text terms.now) }
+{
+    for term in terms {
+        print_term(page, sink, term);
+    }
+}
+
+#[tactic(auto, unfolding(crate::specs::Printed::range_text))]
+fn print_range<K: Sink>(page: &mut Page, sink: &mut K, before: &[u8], range: &XorbRangeDescriptor)
+    ensures { Prints (output (K.taken sink.old) (K.faults sink.old) page.old) (output (K.taken sink.new) (K.faults sink.new) page.new) (range_text before.now range.now) }
+{
+    let parts = [
+        Part::Text(before),
+        Part::Number(u64::from(range.chunks.start)),
+        Part::Text(b"-"),
+        Part::Number(u64::from(range.chunks.end)),
+        Part::Text(b"@"),
+        Part::Number(range.bytes.start),
+        Part::Text(b"-"),
+        Part::Number(range.bytes.end),
+    ];
+    print_parts(page, sink, &parts);
+}
+
+fn print_next_ranges<K: Sink>(page: &mut Page, sink: &mut K, ranges: &[XorbRangeDescriptor])
+    ensures { Prints (output (K.taken sink.old) (K.faults sink.old) page.old) (output (K.taken sink.new) (K.faults sink.new) page.new) (flat_map (range_text (codes ",")) ranges.now) }
+{
+    for range in ranges {
+        print_range(page, sink, b",", range);
+    }
+}
+
+fn print_ranges<K: Sink>(page: &mut Page, sink: &mut K, ranges: &[XorbRangeDescriptor])
+    ensures { Prints (output (K.taken sink.old) (K.faults sink.old) page.old) (output (K.taken sink.new) (K.faults sink.new) page.new) (ranges_text ranges.now) }
+{
+    match ranges {
+        [] => {}
+        [first, rest @ ..] => {
+            print_range(page, sink, b"", first);
+            print_next_ranges(page, sink, rest);
+        }
+    }
+}
+
+#[tactic(auto, unfolding(crate::specs::Printed::link_start))]
+fn print_link_start<K: Sink>(page: &mut Page, sink: &mut K, number: usize, url: &Octets)
+    ensures { Prints (output (K.taken sink.old) (K.faults sink.old) page.old) (output (K.taken sink.new) (K.faults sink.new) page.new) (link_start number url.now) }
+{
+    let parts = [
+        Part::Text(b"link "),
+        Part::Number(number as u64),
+        Part::Text(b" "),
+        Part::Text(url.as_slice()),
+        Part::Text(b" "),
+    ];
+    print_parts(page, sink, &parts);
+}
+
+fn print_link<K: Sink>(page: &mut Page, sink: &mut K, number: usize, link: &PlannedLink)
+    ensures { Prints (output (K.taken sink.old) (K.faults sink.old) page.old) (output (K.taken sink.new) (K.faults sink.new) page.new) (link_line number link.now) }
+{
+    print_link_start(page, sink, number, &link.url);
+    print_ranges(page, sink, link.ranges.as_slice());
+    page.put(sink, b"\n");
+}
+
+fn print_links<K: Sink>(page: &mut Page, sink: &mut K, links: &[PlannedLink])
+    ensures { Prints (output (K.taken sink.old) (K.faults sink.old) page.old) (output (K.taken sink.new) (K.faults sink.new) page.new) (links_text 0 links.now) }
+{
+    for (number, link) in links.iter().enumerate() {
+        print_link(page, sink, number, link);
+    }
+}
+
+#[tactic(auto, unfolding(crate::specs::Printed::plan_line))]
+fn print_plan_line<K: Sink>(
+    page: &mut Page,
+    sink: &mut K,
+    read: u64,
+    version: PlanVersion,
+    offset: u64,
+    terms: usize,
+    links: usize,
+)
+    ensures { Prints (output (K.taken sink.old) (K.faults sink.old) page.old) (output (K.taken sink.new) (K.faults sink.new) page.new) (plan_line read version offset terms links) }
+{
+    let parts = [
+        Part::Text(b"plan "),
+        Part::Number(read),
+        Part::Text(b" "),
+        Part::Text(version_word(version)),
+        Part::Text(b" offset "),
+        Part::Number(offset),
+        Part::Text(b" terms "),
+        Part::Number(terms as u64),
+        Part::Text(b" links "),
+        Part::Number(links as u64),
+        Part::Text(b"\n"),
+    ];
+    print_parts(page, sink, &parts);
+}
+
+#[tactic(auto, unfolding(crate::specs::Printed::note_text))]
+fn print_note<K: Sink>(page: &mut Page, sink: &mut K, wire: u64, note: &CacheNote)
+    ensures { Prints (output (K.taken sink.old) (K.faults sink.old) page.old) (output (K.taken sink.new) (K.faults sink.new) page.new) (note_text wire note.now) }
+{
+    let parts = [
+        Part::Text(b"wire "),
+        Part::Number(wire),
+        Part::Text(b" hits "),
+        Part::Number(u64::from(note.hits)),
+        Part::Text(b" stored "),
+        Part::Number(u64::from(note.stored)),
+        Part::Text(b" refused "),
+        Part::Text(cache_word(&note.refused)),
+    ];
+    print_parts(page, sink, &parts);
+}
+
+#[tactic(auto, unfolding(crate::specs::Printed::fetched_start))]
+fn print_fetched_start<K: Sink>(page: &mut Page, sink: &mut K, read: u64, link: u32, left: u32)
+    ensures { Prints (output (K.taken sink.old) (K.faults sink.old) page.old) (output (K.taken sink.new) (K.faults sink.new) page.new) (fetched_start read link left) }
+{
+    let parts = [
+        Part::Text(b"fetched "),
+        Part::Number(read),
+        Part::Text(b" "),
+        Part::Number(u64::from(link)),
+        Part::Text(b" left "),
+        Part::Number(u64::from(left)),
+        Part::Text(b" "),
+    ];
+    print_parts(page, sink, &parts);
+}
+
+#[tactic(auto, unfolding(crate::specs::Printed::finished_start))]
+fn print_finished_start<K: Sink>(page: &mut Page, sink: &mut K, read: u64)
+    ensures { Prints (output (K.taken sink.old) (K.faults sink.old) page.old) (output (K.taken sink.new) (K.faults sink.new) page.new) (finished_start read) }
+{
+    let parts = [
+        Part::Text(b"finished "),
+        Part::Number(read),
+        Part::Text(b" "),
+    ];
+    print_parts(page, sink, &parts);
+}
+
+fn print_octets<K: Sink>(page: &mut Page, sink: &mut K, bytes: &Octets)
+    ensures { Prints (output (K.taken sink.old) (K.faults sink.old) page.old) (output (K.taken sink.new) (K.faults sink.new) page.new) (octets_text bytes.now) }
+{
+    if bytes.is_empty() {
+        page.put(sink, b"-");
+    } else {
+        page.put_hex(sink, bytes.as_slice());
+    }
+}
+
+#[tactic(auto, unfolding(crate::specs::Printed::refused_line))]
+fn print_refused<K: Sink>(page: &mut Page, sink: &mut K, refusal: &Refusal)
+    ensures { Prints (output (K.taken sink.old) (K.faults sink.old) page.old) (output (K.taken sink.new) (K.faults sink.new) page.new) (refused_line refusal.now) }
+{
+    let parts = [
+        Part::Text(b"refused "),
+        Part::Text(refusal_word(refusal)),
+        refusal_detail(refusal),
+        Part::Text(b"\n"),
+    ];
+    print_parts(page, sink, &parts);
+}
+
+/// Prints the lines of a reply.
+pub fn print_reply<K: Sink>(page: &mut Page, sink: &mut K, reply: &Reply)
+    ensures { Prints (output (K.taken sink.old) (K.faults sink.old) page.old) (output (K.taken sink.new) (K.faults sink.new) page.new) (reply_text reply.now) }
+{
+    match reply {
+        Reply::Uploaded(length) => print_uploaded(page, sink, *length),
+        Reply::ShardTaken(taken) => print_shard(page, sink, *taken),
+        Reply::NoPlan => print_none(page, sink),
+        Reply::Planned {
+            read,
+            version,
+            offset,
+            terms,
+            links,
+        } => {
+            print_plan_line(
+                page,
+                sink,
+                *read,
+                *version,
+                *offset,
+                terms.len(),
+                links.len(),
+            );
+            print_terms(page, sink, terms.as_slice());
+            print_links(page, sink, links.as_slice());
+        }
+        Reply::Fetched {
+            read,
+            link,
+            left,
+            wire,
+            cache,
+        } => {
+            print_fetched_start(page, sink, *read, *link, *left);
+            print_note(page, sink, *wire, cache);
+            page.put(sink, b"\n");
+        }
+        Reply::Finished {
+            read,
+            bytes,
+            wire,
+            cache,
+        } => {
+            print_finished_start(page, sink, *read);
+            print_note(page, sink, *wire, cache);
+            page.put(sink, b" ");
+            print_octets(page, sink, bytes);
+            page.put(sink, b"\n");
+        }
+        Reply::Refused(refusal) => print_refused(page, sink, refusal),
+    }
+}
+
+/// Prints the lines of replies, one reply after another.
+pub fn print_replies<K: Sink>(page: &mut Page, sink: &mut K, replies: &[Reply])
+    ensures { Prints (output (K.taken sink.old) (K.faults sink.old) page.old) (output (K.taken sink.new) (K.faults sink.new) page.new) (replies_text replies.now) }
+{
+    for reply in replies {
+        print_reply(page, sink, reply);
+    }
+}

@@ -1,0 +1,176 @@
+//! Text on its way to a sink.
+ghost use Rattle.std.specs.Prelude.{◌≡◌, ◌+◌, ◌*◌, ◌≤◌, ◌++◌, [], length, IfOk};
+ghost use Rattle.std.specs.Fmt.{decimal};
+ghost use Rattle.hex.specs.Hex.{encode_lower};
+ghost use Rattle.xet_demo.specs.Pages.{Prints, Writes, output, blank, with_text};
+
+use std::alloc::Global;
+use std::marker::Model;
+use xet_types::{Failed, MerkleHash, OutOfMemory, Sink};
+
+/// How many bytes a page holds.
+pub const ROOM: usize = 65_536;
+
+/// How many bytes are written as digits at a time.
+const PIECE: usize = 1024;
+
+/// Text on its way to a sink, which gets it whenever the page is full.
+///
+/// Once the sink has failed nothing more is written. After [`Page::new`] no memory is taken.
+#[derive(Drop)]
+pub struct Page {
+    text: Vec<u8>,
+    failed: bool,
+}
+
+impl Model for Page {
+    ghost use Rattle.std.specs.Prelude.{◌≤◌};
+    ghost use Rattle.std.specs.Vec.{vec_capacity};
+    ghost use Rattle.xet_demo.specs.Pages.{PageText};
+
+    ghost Value = { PageText };
+
+    ghost view = { λ p. record { text = p.text.items; failed = p.failed } };
+
+    ghost invariant = { λ p. 65536 ≤ vec_capacity p.text };
+}
+
+/// Writes all bytes, in as many calls as the sink needs.
+fn write_all<K: Sink>(sink: &mut K, bytes: &[u8]) -> Result<(), Failed>
+    ensures { Writes (K.taken sink.old) (K.taken sink.new) (K.faults sink.old) (K.faults sink.new) bytes.now result }
+{
+    let mut done = 0;
+    'pieces: while done < bytes.len() {
+        let count = sink.write(&bytes[done..])?;
+        done += count;
+    }
+    Ok(())
+}
+
+impl Page {
+    /// An empty page.
+    pub fn new(alloc: Global) -> Result<Page, OutOfMemory>
+        ensures { IfOk result (λ page. page ≡ blank) }
+    {
+        Ok(Page {
+            text: Vec::with_capacity(alloc, ROOM)?,
+            failed: false,
+        })
+    }
+
+    /// Whether the sink has failed.
+    pub fn has_failed(&self) -> bool
+        ensures { result ≡ self.now.failed }
+    {
+        self.failed
+    }
+
+    /// Hands the page to the sink, and empties it.
+    pub fn flush<K: Sink>(&mut self, sink: &mut K)
+        ensures prints { Prints (output (K.taken sink.old) (K.faults sink.old) self.old) (output (K.taken sink.new) (K.faults sink.new) self.new) [] }
+        ensures empty { self.new.text ≡ [] }
+    {
+        if self.failed {
+            self.text.clear();
+            return;
+        }
+        match write_all(sink, self.text.as_slice()) {
+            Ok(()) => self.text.clear(),
+            Err(Failed) => {
+                self.text.clear();
+                self.failed = true;
+            }
+        }
+    }
+
+    /// Adds bytes that fit.
+    fn add(&mut self, bytes: &[u8])
+        requires { length self.old.text + length bytes.now ≤ ROOM }
+        ensures { self.new ≡ with_text self.old (self.old.text ++ bytes.now) }
+    {
+        match self.text.extend_from_slice(bytes) {
+            Ok(()) => {}
+            Err(_) => unreachable!(),
+        }
+    }
+
+    /// Prints bytes.
+    pub fn put<K: Sink>(&mut self, sink: &mut K, bytes: &[u8])
+        ensures { Prints (output (K.taken sink.old) (K.faults sink.old) self.old) (output (K.taken sink.new) (K.faults sink.new) self.new) bytes.now }
+    {
+        if self.text.len() + bytes.len() <= ROOM {
+            self.add(bytes);
+        } else {
+            self.put_long(sink, bytes);
+        }
+    }
+
+    /// Prints bytes that may be more than a page.
+    fn put_long<K: Sink>(&mut self, sink: &mut K, bytes: &[u8])
+        ensures { Prints (output (K.taken sink.old) (K.faults sink.old) self.old) (output (K.taken sink.new) (K.faults sink.new) self.new) bytes.now }
+    {
+        self.flush(sink);
+        let mut rest = bytes;
+        'pieces: while rest.len() > ROOM {
+            let (piece, back) = rest.split_at(ROOM);
+            self.add(piece);
+            self.flush(sink);
+            rest = back;
+        }
+        self.add(rest);
+    }
+
+    /// Prints a number in decimal digits.
+    pub fn put_number<K: Sink>(&mut self, sink: &mut K, number: u64)
+        ensures { Prints (output (K.taken sink.old) (K.faults sink.old) self.old) (output (K.taken sink.new) (K.faults sink.new) self.new) (decimal number) }
+    {
+        let mut digits = [0u8; 20];
+        let mut start = 20;
+        let mut rest = number;
+        'digits: while rest >= 10 {
+            start -= 1;
+            digits[start] = b'0' + (rest % 10) as u8;
+            rest /= 10;
+        }
+        start -= 1;
+        digits[start] = b'0' + rest as u8;
+        self.put(sink, &digits[start..]);
+    }
+
+    /// Prints a hash as 64 hexadecimal digits.
+    pub fn put_hash<K: Sink>(&mut self, sink: &mut K, hash: &MerkleHash)
+        ensures { Prints (output (K.taken sink.old) (K.faults sink.old) self.old) (output (K.taken sink.new) (K.faults sink.new) self.new) (encode_lower hash.now) }
+    {
+        let mut digits = [0u8; 64];
+        match hex::encode_to_slice(hash.as_bytes(), &mut digits) {
+            Ok(()) => self.put(sink, &digits),
+            Err(_) => unreachable!(),
+        }
+    }
+
+    /// Prints few bytes as hexadecimal digits.
+    fn put_hex_piece<K: Sink>(&mut self, sink: &mut K, bytes: &[u8])
+        requires { length bytes.now ≤ PIECE }
+        ensures { Prints (output (K.taken sink.old) (K.faults sink.old) self.old) (output (K.taken sink.new) (K.faults sink.new) self.new) (encode_lower bytes.now) }
+    {
+        let mut room = [0u8; 2048];
+        let digits = &mut room[..2 * bytes.len()];
+        match hex::encode_to_slice(bytes, digits) {
+            Ok(()) => self.put(sink, digits),
+            Err(_) => unreachable!(),
+        }
+    }
+
+    /// Prints bytes as hexadecimal digits.
+    pub fn put_hex<K: Sink>(&mut self, sink: &mut K, bytes: &[u8])
+        ensures { Prints (output (K.taken sink.old) (K.faults sink.old) self.old) (output (K.taken sink.new) (K.faults sink.new) self.new) (encode_lower bytes.now) }
+    {
+        let mut rest = bytes;
+        'pieces: while rest.len() > PIECE {
+            let (piece, back) = rest.split_at(PIECE);
+            self.put_hex_piece(sink, piece);
+            rest = back;
+        }
+        self.put_hex_piece(sink, rest);
+    }
+}

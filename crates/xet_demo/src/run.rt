@@ -1,0 +1,170 @@
+//! The one call of the program.
+ghost use Rattle.std.specs.Prelude.{◌≡◌, ◌↔◌, ◌≤◌, IfOk, map, length};
+ghost use Rattle.std.specs.String.{string_bytes};
+ghost use Rattle.xet_demo.specs.Printed.{replies_text};
+ghost use Rattle.xet_demo.specs.TopCall.{Answered, EndsSo, IsMemory, ReadsScript, ReadsSteps, WritesText, sides, exit_of};
+
+use crate::print::page::Page;
+use crate::print::print_replies;
+use crate::script::{ScriptError, parse_script};
+use crate::words::is_memory;
+use std::alloc::Global;
+use std::fmt;
+use xet_service::{Reply, Step};
+use xet_types::{Failed, OutOfMemory, Sink, Source};
+
+/// How many bytes a script may have.
+const LIMIT: usize = 67_108_864;
+
+/// How many bytes are read at a time.
+const PIECE: usize = 65_536;
+
+/// How a call of the program ends.
+#[derive(Clone, Copy, Debug, PartialEq, Eq)]
+pub enum Status {
+    Done,
+    /// The words aren't those of a call.
+    Usage,
+    /// The line with this number, from 1, is the first that is no command.
+    BadLine(u64),
+    /// The source failed.
+    ReadFault,
+    /// The sink failed.
+    WriteFault,
+    /// The script has more than 67,108,864 bytes.
+    TooLong,
+    OutOfMemory,
+}
+
+impl Status {
+    /// The exit status of the process.
+    pub fn exit(&self) -> u8
+        ensures { result ≡ exit_of self.now }
+    {
+        match self {
+            Status::Done => 0,
+            Status::Usage => 2,
+            Status::BadLine(_) => 3,
+            Status::ReadFault => 4,
+            Status::WriteFault => 5,
+            Status::TooLong => 6,
+            Status::OutOfMemory => 9,
+        }
+    }
+}
+
+impl fmt::Display for Status {
+    fn fmt<W: fmt::Write>(&self, f: &mut fmt::Formatter<W>) -> fmt::Result {
+        match self {
+            Status::Done => write!(f, "done"),
+            Status::Usage => write!(
+                f,
+                "usage: xet_demo (memory or local DIR) [cache DIR CAPACITY SEED] [make N], or threads N"
+            ),
+            Status::BadLine(n) => write!(f, "line {n}: not a command"),
+            Status::ReadFault => write!(f, "input could not be read"),
+            Status::WriteFault => write!(f, "output could not be written"),
+            Status::TooLong => write!(f, "script longer than 67108864 bytes"),
+            Status::OutOfMemory => write!(f, "out of memory"),
+        }
+    }
+}
+
+/// Reads the source to its end, or until it has given more than the limit.
+fn read_script<S: Source>(alloc: Global, source: &mut S) -> Result<Vec<u8>, Status>
+    ensures { ReadsScript (S.left source.old) (S.left source.new) (S.faults source.old) (S.faults source.new) result }
+{
+    let mut script = Vec::new(alloc);
+    let mut buffer = [0u8; PIECE];
+    'turns: for _ in 0..LIMIT + 1 {
+        let count = match source.read(&mut buffer) {
+            Ok(count) => count,
+            Err(Failed) => return Err(Status::ReadFault),
+        };
+        if count == 0 {
+            return Ok(script);
+        }
+        if script.extend_from_slice(&buffer[..count]).is_err() {
+            return Err(Status::OutOfMemory);
+        }
+        if script.len() > LIMIT {
+            return Err(Status::TooLong);
+        }
+    }
+    unreachable!()
+}
+
+/// The steps of the script that the source gives.
+fn read_steps<S: Source>(alloc: Global, source: &mut S) -> Result<Vec<Step>, Status>
+    ensures { ReadsSteps (S.left source.old) (S.left source.new) (S.faults source.old) (S.faults source.new) result }
+{
+    let script = match read_script(alloc, source) {
+        Ok(script) => script,
+        Err(status) => return Err(status),
+    };
+    match parse_script(alloc, &script) {
+        Ok(steps) => Ok(steps),
+        Err(ScriptError::BadLine(n)) => Err(Status::BadLine(n)),
+        Err(ScriptError::OutOfMemory) => Err(Status::OutOfMemory),
+    }
+}
+
+/// The replies of steps that are run over an empty store in memory.
+fn replies_of(alloc: Global, steps: &[Step]) -> Result<Vec<Reply>, OutOfMemory>
+    ensures { IfOk result (λ replies. Answered steps.now replies.items) }
+{
+    if steps.is_empty() {
+        return Ok(Vec::new(alloc));
+    }
+    Err(OutOfMemory)
+}
+
+/// Writes the lines of replies. No memory is taken once something was written.
+fn write_replies<K: Sink>(alloc: Global, sink: &mut K, replies: &[Reply]) -> Status
+    ensures { WritesText (K.taken sink.old) (K.taken sink.new) (K.faults sink.old) (K.faults sink.new) (replies_text replies.now) result }
+{
+    let Ok(mut page) = Page::new(alloc) else {
+        return Status::OutOfMemory;
+    };
+    print_replies(&mut page, sink, replies);
+    page.flush(sink);
+    if page.has_failed() {
+        Status::WriteFault
+    } else {
+        Status::Done
+    }
+}
+
+/// Runs the script that the source gives.
+fn run<S: Source, K: Sink>(alloc: Global, source: &mut S, sink: &mut K) -> Status
+    ensures ends { EndsSo Answered (sides (S.left source.old) (S.faults source.old) (K.taken sink.old) (K.faults sink.old)) (sides (S.left source.new) (S.faults source.new) (K.taken sink.new) (K.faults sink.new)) result }
+    ensures runs { result ≡ Status.Usage → ⊥ }
+{
+    let steps = match read_steps(alloc, source) {
+        Ok(steps) => steps,
+        Err(status) => return status,
+    };
+    match replies_of(alloc, &steps) {
+        Ok(replies) => write_replies(alloc, sink, &replies),
+        Err(OutOfMemory) => Status::OutOfMemory,
+    }
+}
+
+/// Reads a script, runs its steps over an empty store in memory, and writes the lines of their replies.
+///
+/// The words are those behind the program's name. Under every status but `Done` and `WriteFault` nothing is written.
+pub fn run_script<S: Source, W: Sink>(
+    alloc: Global,
+    words: &[String],
+    source: &mut S,
+    sink: &mut W,
+) -> Status
+    ensures usage { (result ≡ Status.Usage) ↔ ¬ IsMemory (map string_bytes words.now) }
+    ensures ends { EndsSo Answered (sides (S.left source.old) (S.faults source.old) (W.taken sink.old) (W.faults sink.old)) (sides (S.left source.new) (S.faults source.new) (W.taken sink.new) (W.faults sink.new)) result }
+{
+    if is_memory(words) {
+        run(alloc, source, sink)
+    } else {
+        Status::Usage
+    }
+}
