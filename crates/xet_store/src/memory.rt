@@ -31,17 +31,19 @@ pub struct MemoryClient {
 }
 
 impl Model for MemoryClient {
-    ghost use Rattle.xet_store.specs.StoreModel.{StoreModel, store_code};
+    ghost use Rattle.xet_store.specs.StoreModel.{StoreModel, IsSound, store_code};
 
     ghost Value = { StoreModel };
 
     ghost coded = { store_code };
 
     ghost view = { λ s. record { xorbs = s.xorbs; shards = s.shards } };
+
+    ghost invariant = { λ s. IsSound (record { xorbs = s.xorbs; shards = s.shards }) };
 }
 
 impl MemoryClient {
-    ghost use Rattle.xet_store.specs.StoreModel.{empty};
+    ghost use Rattle.xet_store.specs.StoreModel.{IsSound, empty};
 
     /// A store without xorbs and shards.
     pub fn new(alloc: Global) -> MemoryClient
@@ -100,7 +102,8 @@ impl MemoryClient {
         file: &MerkleHash,
         range: Option<FileRange>,
     ) -> Result<Option<Plan>, ClientError>
-        ensures { Answered result (λ r. PlansFile self.now file.now range r) ⊤ }
+        ensures answer { Answered result (λ r. PlansFile self.now file.now range r) ⊤ }
+        ensures sound { IsSound self.now }
     {
         let Some(listing) = self.shards.listing(file) else {
             return Ok(None);
@@ -117,7 +120,8 @@ impl MemoryClient {
         hash: &MerkleHash,
         chunks: ChunkRange,
     ) -> Result<Items<Bytes>, ClientError>
-        ensures { Answered result (λ r. r ≡ cut_of self.now hash.now chunks.start chunks.end) ⊤ }
+        ensures answer { Answered result (λ r. r ≡ cut_of self.now hash.now chunks.start chunks.end) ⊤ }
+        ensures sound { IsSound self.now }
     {
         let Some(xorb) = self.xorbs.get(hash) else {
             return Err(ClientError::XORBNotFound(*hash));

@@ -6,7 +6,9 @@ use Rattle.xet_types.specs.declared.error.Refusal.{Refusal}
 use Rattle.xet_types.specs.declared.error.Refusal.TheVariants.{Other}
 use Rattle.xet_types.specs.Names.{same_hash, xorb_name, name_of_hashes}
 use Rattle.xet_store.specs.Answered.{AnsweredErr}
-use Rattle.xet_store.specs.StoreModel.{StoreModel, Chunks, stored}
+use Rattle.xet_store.specs.StoreModel.{StoreModel, Chunks, stored, with_xorb}
+use Rattle.std.specs.FinMap.{insert}
+use Rattle.xet_store.proofs.Store.{unchanged_sound, with_xorb_sound}
 use Rattle.xet_store.specs.Commands.{UploadsOver, UploadsFresh, IsMisnamed}
 use Rattle.xet_store.proofs.memory.MemoryClient.upload_xorb.Goals as goal
 
@@ -35,3 +37,21 @@ returns-then-ne c =
           not_both (same_hash c.xorb_hash.result c.args.hash.now) same differs;
     } in
     refused _ _ _ c.misnamed.ensures (fresh (stored c.args.self.now c.args.hash.now) c.args.self.now c.args.hash.now c.args.content.now (Err Other) c.args.self.now unstored (misnamed, refl)) refl
+
+not_not : (b : Bool) → not b ≡ false → b ≡ true
+not_not true p = refl
+not_not false p = let no : ⊥ = cc in absurd no
+
+pub invariant_of-self : goal.invariant_of-self
+invariant_of-self c = unchanged_sound (record { xorbs = c.self.inside.xorbs; shards = c.self.inside.shards }) (record { xorbs = c.insert.new.self; shards = c.self.inside.shards }) c.in_err-insert.ensures.err c.self.invariant
+
+pub invariant_of-self-2 : goal.invariant_of-self-2
+invariant_of-self-2 c =
+    let chunks = c.in_ok-read.read.chunks.items in
+    let m : StoreModel = record { xorbs = c.self.inside.xorbs; shards = c.self.inside.shards } in
+    let n : StoreModel = record { xorbs = c.insert.new.self; shards = c.self.inside.shards } in
+    let named : c.xorb_hash.result ≡ xorb_name chunks = c.xorb_hash.ensures ∙ ap (λ o. name_of_hashes o.hashes) c.in_ok-read.ensures.object in
+    let same : c.xorb_hash.result ≡ c.args.hash.now = (bytes_decides c.xorb_hash.result c.args.hash.now).0 (not_not (same_hash c.xorb_hash.result c.args.hash.now) (sym c.ne.ensures ∙ c.if-ne.false)) in
+    let kept : c.in_ok-xorb.xorb ≡ chunks = c.in_ok-xorb.ensures in
+    let put : n.xorbs ≡ insert m.xorbs c.args.hash.now chunks = c.in_ok-insert.ensures.ok ∙ ap (insert m.xorbs c.args.hash.now) kept in
+    unchanged_sound (with_xorb m c.args.hash.now chunks) n put (with_xorb_sound m c.args.hash.now chunks c.self.invariant c.in_ok-read.ensures.chunks.formed (sym named ∙ same))
