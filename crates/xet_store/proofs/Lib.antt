@@ -1,0 +1,3 @@
+pub mod PastEnd
+pub mod Planning
+pub mod Store

@@ -1,0 +1,6 @@
+pub mod StoreModel
+pub mod Answered
+pub mod Commands
+pub mod Plans
+pub mod Cuts
+pub mod Kept
