@@ -141,8 +141,8 @@ fn plan_of(alloc: Global, start: u64, cuts: &[Cut]) -> Result<Plan, OutOfMemory>
     })
 }
 
-/// The plan of the bytes from a start up to an end. The footer of each met segment is asked once, in file order, and its refusal
-/// is the answer; `FormatError(Segment)` where the segment disagrees with its xorb.
+/// The plan of the bytes from a start up to an end. The first refusal of a met segment, in file order, is the answer: its
+/// footer's, or `FormatError(Segment)` where it disagrees with its xorb.
 fn plan_within<F: Footers>(
     alloc: Global,
     segments: &[Segment],
@@ -165,8 +165,9 @@ fn plan_within<F: Footers>(
 ///
 /// No range asks for the whole file; an end past the size is clipped. The empty file has a plan without terms where there is no
 /// range or it starts at 0. No plan where the range starts at or past the size, then `InvalidRange` where its end isn't above its
-/// start: footers aren't asked then. Each segment that holds an asked byte has its footer asked for, in file order, and a refusal
-/// of it is the answer; `FormatError(Segment)` where the segment disagrees with its xorb. A segment of length 0 holds none.
+/// start: footers aren't asked then. The footers of the segments that hold an asked byte are asked in file order, once for
+/// neighbours of one xorb, and the first refusal is the answer; `FormatError(Segment)` where a segment disagrees with its xorb. A
+/// segment of length 0 holds no byte.
 pub fn compute_reconstruction_ranges<F: Footers>(
     alloc: Global,
     listing: &FileListing,
