@@ -1,3 +1,4 @@
 pub mod PastEnd
 pub mod Planning
 pub mod Store
+pub mod Indexed

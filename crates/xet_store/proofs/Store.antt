@@ -1,7 +1,7 @@
 -- What a store holds after a command.
-use Rattle.std.proofs.Common.{◌≡◌, ◌≢◌, ◌∙◌, ℕ, cond, true, false, List, [], ◌∷◌, ◌++◌, Option, Some, None, Result, Ok, Err, Bool, map, length, filter, not, refl, sym, ap, subst, Ordering, arith}
+use Rattle.std.proofs.Common.{◌≡◌, ◌≢◌, ◌∙◌, ℕ, cond, true, false, List, [], ◌∷◌, ◌++◌, Option, Some, None, Result, Ok, Err, Bool, map, length, filter, not, refl, sym, ap, subst, Ordering}
 use Rattle.std.specs.declared.cmp.Ordering.TheVariants.{Less, Equal, Greater}
-use Rattle.std.specs.FinMap.{FinMap, get, insert, get-empty, get-insert}
+use Rattle.std.specs.FinMap.{FinMap, get, get-empty, get-insert}
 use Rattle.std.specs.Ordering.{is_eq, eq_by_cmp}
 use Rattle.std.specs.Option.{option_map}
 use Rattle.std.proofs.lemmas.Cmp.{tied_itself}
@@ -16,7 +16,7 @@ use Rattle.xet_shard.specs.declared.listing.Segment.{Segment}
 use Rattle.xet_shard.specs.Listings.{ShardModel}
 use Rattle.xet_shard.specs.Canonical.{shard_name}
 use Rattle.xet_plan.specs.FileBytes.{Describes}
-use Rattle.xet_store.specs.StoreModel.{StoreModel, Chunks, empty, stored, listing, IsSound, known_of, content_of, with_xorb, with_shard, accepted, or_else, listed_in, last_listing}
+use Rattle.xet_store.specs.StoreModel.{StoreModel, Chunks, empty, stored, listing, IsSound, known_of, content_of, with_xorb, accepted, or_else, listed_in, last_listing}
 use Rattle.xet_store.specs.Commands.{UploadsXorb, UploadsOver, UploadsFresh, UploadsShard}
 
 -- ---- xorbs

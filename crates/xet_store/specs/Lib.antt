@@ -4,3 +4,4 @@ pub mod Commands
 pub mod Plans
 pub mod Cuts
 pub mod Kept
+pub mod Indexed

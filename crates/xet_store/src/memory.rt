@@ -13,12 +13,12 @@ mod xorb;
 
 use bytes::Bytes;
 use footers::StoredFooters;
-use shards::ShardList;
+use shards::{KeptShard, ShardList};
 use std::alloc::Global;
 use std::marker::Model;
 use xet_bytes::ByHash;
 use xet_plan::{Plan, compute_reconstruction_ranges};
-use xet_shard::{canonical, read_shard, shard_hash};
+use xet_shard::read_shard;
 use xet_types::{ChunkRange, ClientError, FileRange, Items, MerkleHash, OutOfMemory};
 use xet_xorb::read_xorb;
 use xorb::StoredXorb;
@@ -87,9 +87,8 @@ impl MemoryClient {
         ensures { Answered result (λ r. UploadsShard self.old content.now r self.new) (self.new ≡ self.old) }
     {
         let shard = read_shard(alloc, content.as_slice())?;
-        let shard = canonical(alloc, &shard)?;
-        let name = shard_hash(alloc, &shard)?;
-        self.shards.accept(name, shard)?;
+        let kept = KeptShard::canonical(alloc, &shard)?;
+        self.shards.accept(kept)?;
         Ok(true)
     }
 
