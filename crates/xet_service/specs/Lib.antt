@@ -1,0 +1,10 @@
+pub mod Wants
+pub mod Links
+pub mod Reads
+pub mod World
+pub mod Steps
+pub mod Requests
+pub mod Runs
+pub mod Causes
+pub mod Validity
+pub mod Headline

@@ -1,8 +1,15 @@
 //! Steps of readers and writers over a store, their replies, and runs of them.
 #![tactic(auto)]
 
+mod links;
+mod read;
 pub mod reply;
+pub mod run;
+pub mod service;
+mod slots;
 pub mod step;
 
 pub use reply::{CacheNote, CacheRefusal, PlannedLink, Reply};
+pub use run::run_steps;
+pub use service::ChunkService;
 pub use step::{Act, PlanVersion, Step};

@@ -1,0 +1,8 @@
+use Rattle.std.proofs.Common.{◌≡◌, take, map}
+use Rattle.std.specs.List.{flat_map}
+use Rattle.xet_plan.specs.Merging.{ranges_shown}
+use Rattle.xet_service.specs.Links.{group_runs, link_of}
+use Rattle.xet_service.proofs.links.links_of.Given as goal
+
+abbrev pub invariant-loop-group : goal.invariant-loop-group
+invariant-loop-group l = l.links.items ≡ map (link_of l.at) (flat_map group_runs (map ranges_shown (take l.group-index l.group-items)))

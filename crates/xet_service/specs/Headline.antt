@@ -1,0 +1,124 @@
+-- What every run keeps.
+use Rattle.std.specs.Prelude.{◌≡◌, ℕ, ◌<◌, ◌≤◌, ◌↔◌, ◌⊎◌, List, [], ◌∷◌, ◌++◌, length, take, map, Option, Some, None, Result, Ok, Err}
+use Rattle.std.specs.List.{AllByRecursion}
+use Rattle.std.specs.FinMap.{get}
+use Rattle.std.specs.FinMap as finmap
+use Rattle.xet_types.specs.declared.error.Refusal.{Refusal}
+use Rattle.xet_types.specs.declared.error.Refusal.TheVariants.{InvalidArguments}
+use Rattle.xet_types.specs.declared.range.Range.{Range}
+use Rattle.xet_types.specs.declared.range._F.{_F}
+use Rattle.xet_types.specs.declared.record.XorbRangeDescriptor.{XorbRangeDescriptor}
+use Rattle.xet_types.specs.declared.record.XorbReconstructionTerm.{XorbReconstructionTerm}
+use Rattle.xet_shard.specs.declared.listing.Segment.{Segment}
+use Rattle.xet_shard.specs.Values.{size_of}
+use Rattle.xet_plan.specs.Places.{Interval, reach, first_fault}
+use Rattle.xet_plan.specs.declared.place.Reach.TheVariants.{Within}
+use Rattle.xet_plan.specs.MetChunks.{Has, met_chunks}
+use Rattle.xet_plan.specs.FileBytes.{Content}
+use Rattle.xet_plan.specs.Plans.{PlanModel}
+use Rattle.xet_plan.specs.Answers.{IsPlan}
+use Rattle.xet_store.specs.StoreModel.{StoreModel, listing, known_of}
+use Rattle.xet_service.specs.declared.step.Act.{Act}
+use Rattle.xet_service.specs.declared.step.Act.TheVariants.{Plan, Fetch}
+use Rattle.xet_service.specs.declared.step.Step.{Step}
+use Rattle.xet_service.specs.declared.step.PlanVersion.{PlanVersion}
+use Rattle.xet_service.specs.declared.reply.PlannedLink.{PlannedLink}
+use Rattle.xet_service.specs.declared.reply.CacheNote.{CacheNote}
+use Rattle.xet_service.specs.declared.reply.Reply.{Reply}
+use Rattle.xet_service.specs.declared.reply.Reply.TheVariants.{NoPlan, Planned, Fetched, Finished, Refused}
+use Rattle.xet_service.specs.Links.{links_of}
+use Rattle.xet_service.specs.World.{State, Numbered}
+use Rattle.xet_service.specs.Runs.{World, world, Event, IsRun}
+use Rattle.xet_service.specs.Causes.{HasCause, PlansNothing, IsLeft}
+use Rattle.xet_service.specs.Validity.{IsAgreed, ReadsSucceed}
+
+-- ---- links
+
+-- chunk k is one of the ranges'
+abbrev pub RangesHave : List XorbRangeDescriptor → ℕ → Type 0
+RangesHave [] k = ⊥
+RangesHave (r ∷ rs) k = ((r.chunks.start ≤ k) × (k < r.chunks.end)) ⊎ RangesHave rs k
+
+abbrev pub LinkHas : PlannedLink → List ℕ → ℕ → Type 0
+LinkHas l hash k = (l.hash ≡ hash) × RangesHave l.ranges k
+
+-- chunk k of the xorb is one of a link's
+abbrev pub LinksHave : List PlannedLink → List ℕ → ℕ → Type 0
+LinksHave [] hash k = ⊥
+LinksHave (l ∷ ls) hash k = LinkHas l hash k ⊎ LinksHave ls hash k
+
+-- no two links have a chunk in common
+abbrev pub EachOnce : List PlannedLink → Type 0
+EachOnce [] = Unit {0}
+EachOnce (l ∷ ls) = ((hash : List ℕ) (k : ℕ) → LinkHas l hash k → LinksHave ls hash k → ⊥) × EachOnce ls
+
+-- The file is live, the range begins inside, and the met segments agree. The reply has the terms, the offset and the links
+-- of the file's plan; the links hold exactly the met chunks, each once.
+pub record HoldsMet (store : StoreModel) (file : List ℕ) (range : Option (Range ℕ _F)) (at offset : ℕ) (terms : List XorbReconstructionTerm) (links : List PlannedLink) : Type 0 where
+  pub segments : List Segment
+  pub clip : Interval
+  pub plan : PlanModel
+  pub live : listing store file ≡ Some segments
+  pub reached : reach (size_of segments) range ≡ Within clip.start clip.end
+  pub agree : first_fault (known_of store) clip segments ≡ None
+  pub is_plan : IsPlan (known_of store) segments clip plan
+  pub of_terms : terms ≡ plan.terms
+  pub of_offset : offset ≡ plan.offset_into_first_range
+  pub of_links : links ≡ links_of at plan
+  pub covers : (hash : List ℕ) (k : ℕ) → LinksHave links hash k ↔ Has (met_chunks (known_of store) clip segments) hash k
+  pub once : EachOnce links
+
+-- ---- each step
+
+-- a fetch of this link succeeded
+abbrev pub Brings : ℕ → ℕ → Reply → Type 0
+Brings read link (Fetched n l left wire note) = (n ≡ read) × (l ≡ link)
+Brings read link (Finished n bytes wire note) = n ≡ read
+Brings read link reply = ⊥
+
+pub record Keeps (e : Event) : Type 0 where
+  -- a plan's links hold exactly the met chunks, each once
+  pub links : (version : PlanVersion) (file : List ℕ) (range : Option (Range ℕ _F)) (read : ℕ) (of : PlanVersion) (offset : ℕ) (terms : List XorbReconstructionTerm) (ls : List PlannedLink)
+      → e.step.act ≡ Plan version file range → e.reply ≡ Planned read of offset terms ls → HoldsMet e.before.state.store file range e.step.at offset terms ls
+  -- a refused step changes nothing and has its cause
+  pub refused : (why : Refusal) → e.reply ≡ Refused why → e.after.state ≡ e.before.state
+  pub cause : (why : Refusal) → e.reply ≡ Refused why → HasCause e.before.state e.step.act why
+  pub no_plan : e.reply ≡ NoPlan → PlansNothing e.before.state e.step.act
+  -- a link is left until its fetch succeeds, and is then refused
+  pub left : (read link : ℕ) → IsLeft e.before.state read link → IsLeft e.after.state read link ⊎ ((e.step.act ≡ Fetch read link) × Brings read link e.reply)
+  pub gone : (read link : ℕ) → e.step.act ≡ Fetch read link → (IsLeft e.before.state read link → ⊥) → e.reply ≡ Refused InvalidArguments
+
+-- a read finishes with its file's bytes as its plan's store gave them
+abbrev pub Finishes : Event → Type 0
+Finishes e = (read : ℕ) (bytes : List ℕ) (wire : ℕ) (note : CacheNote) → e.reply ≡ Finished read bytes wire note → bytes ≡ e.after.fixed read
+
+-- ---- the headline
+
+-- no read is open
+abbrev pub NoneOpen : State → Type 0
+NoneOpen s = s.reads ≡ finmap.empty
+
+pub record Headline (start : World) (events : List Event) : Type 0 where
+  -- links, refusals and their causes
+  pub keeps : Numbered start.state → AllByRecursion Keeps events
+  -- where no read is open at the start and no two chunk lists share a name
+  pub finishes : NoneOpen start.state → (m : Content) → IsAgreed m events → AllByRecursion Finishes events
+  pub succeeds : NoneOpen start.state → (m : Content) → IsAgreed m events → ReadsSucceed events
+
+-- A run of these steps whose replies were appended, from a state to a state, that keeps the headline.
+pub record RanKeeping (old : State) (steps : List Step) (before after : List Reply) (new : State) : Type 0 where
+  pub replies : List Reply
+  pub appended : after ≡ before ++ replies
+  -- whatever bytes the reads that are open already had
+  pub run : (fixed : ℕ → List ℕ) → (events : List Event) × (end : ℕ → List ℕ) × IsRun (world old fixed) steps replies events (world new end) × Headline (world old fixed) events
+  pub numbered : Numbered old → Numbered new
+
+-- some first steps were done and no more, since memory was wanting
+pub record KeepsInPart (old : State) (steps : List Step) (before after : List Reply) (new : State) : Type 0 where
+  pub done : ℕ
+  pub not_all : done < length steps
+  pub ran : RanKeeping old (take done steps) before after new
+
+abbrev pub RunsKeeping : {T E : Type 0} → State → List Step → List Reply → Result T E → List Reply → State → Type 0
+RunsKeeping old steps before (Ok x) after new = RanKeeping old steps before after new
+RunsKeeping old steps before (Err e) after new = KeepsInPart old steps before after new
