@@ -8,6 +8,9 @@ use memchr::memchr;
 use std::alloc::Global;
 use xet_types::{FileRange, Octets, OutOfMemory};
 
+/// How many digits a number may have.
+const MOST_DIGITS: usize = 20;
+
 /// What stands before the first separator, and, where there is one, what stands after it.
 pub fn cut(text: &[u8], separator: u8) -> (&[u8], Option<&[u8]>)
     ensures { parts_of separator text.now ≡ result.0.now ∷ parts_after separator (option_copied result.1) }
@@ -22,7 +25,7 @@ pub fn cut(text: &[u8], separator: u8) -> (&[u8], Option<&[u8]>)
 pub fn number(word: &[u8]) -> Option<u64>
     ensures { result ≡ number_of word.now }
 {
-    if word.is_empty() || word.len() > 20 {
+    if word.is_empty() || word.len() > MOST_DIGITS {
         return None;
     }
     let mut value = 0u64;
