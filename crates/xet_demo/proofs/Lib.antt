@@ -3,3 +3,4 @@ pub mod Cuts
 pub mod Steps
 pub mod Printing
 pub mod OneWord
+pub mod HexPairs

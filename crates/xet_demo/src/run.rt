@@ -168,3 +168,6 @@ pub fn run_script<S: Source, W: Sink>(
         Status::Usage
     }
 }
+
+#[cfg(test)]
+mod tests;

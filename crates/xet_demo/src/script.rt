@@ -87,3 +87,6 @@ pub fn parse_script(alloc: Global, script: &[u8]) -> Result<Vec<Step>, ScriptErr
     add_line(alloc, rest, number, &mut steps)?;
     Ok(steps)
 }
+
+#[cfg(test)]
+mod tests;

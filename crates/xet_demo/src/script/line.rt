@@ -5,7 +5,8 @@ ghost use Rattle.std.specs.Char.{is_ascii};
 ghost use Rattle.xet_demo.specs.Words.{parts_of};
 ghost use Rattle.xet_demo.specs.Lines.{act_of, one_word, two_words, words_from, words_line, xorb_act, shard_act, plan_act, fetch_act, ascii_line, line_of};
 
-use super::word::{cut, hash, number, octets, range, small_number};
+use super::digits::hash;
+use super::word::{cut, number, octets, range, small_number};
 use std::alloc::Global;
 use xet_service::{Act, PlanVersion, Step};
 use xet_types::OutOfMemory;

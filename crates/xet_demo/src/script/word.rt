@@ -1,13 +1,15 @@
 //! The words of a line, and what they mean.
 ghost use Rattle.std.specs.Prelude.{◌≡◌, ◌∷◌, IfOk, Option};
 ghost use Rattle.std.specs.Option.{option_copied};
-ghost use Rattle.xet_types.specs.declared.hash.MerkleHash.{MerkleHash};
-ghost use Rattle.xet_demo.specs.Words.{parts_of, parts_after, number_of, small_number_of, hash_of, octets_of, range_of, between};
+ghost use Rattle.xet_demo.specs.Words.{parts_of, parts_after, number_of, small_number_of, octets_of, range_of, between};
 
 use super::digits::decode;
 use memchr::memchr;
 use std::alloc::Global;
-use xet_types::{FileRange, MerkleHash, Octets, OutOfMemory};
+use xet_types::{FileRange, Octets, OutOfMemory};
+
+/// How many digits a number may have.
+const MOST_DIGITS: usize = 20;
 
 /// What stands before the first separator, and, where there is one, what stands after it.
 pub fn cut(text: &[u8], separator: u8) -> (&[u8], Option<&[u8]>)
@@ -23,7 +25,7 @@ pub fn cut(text: &[u8], separator: u8) -> (&[u8], Option<&[u8]>)
 pub fn number(word: &[u8]) -> Option<u64>
     ensures { result ≡ number_of word.now }
 {
-    if word.is_empty() || word.len() > 20 {
+    if word.is_empty() || word.len() > MOST_DIGITS {
         return None;
     }
     let mut value = 0u64;
@@ -43,16 +45,6 @@ pub fn small_number(word: &[u8]) -> Option<u32>
     ensures { result ≡ small_number_of word.now }
 {
     u32::try_from(number(word)?).ok()
-}
-
-/// The hash that 64 hexadecimal digits spell.
-pub fn hash(word: &[u8]) -> Option<MerkleHash>
-    ensures { result ≡ hash_of word.now }
-{
-    match MerkleHash::from_hex_bytes(word) {
-        Ok(hash) => Some(hash),
-        Err(_) => None,
-    }
 }
 
 /// The bytes that hexadecimal digits spell; `-` for none.

@@ -16,4 +16,4 @@ pub returns : goal.returns
 returns c =
     let whole : take c.loop-digit.digit-index c.args.word.now ≡ c.args.word.now = take_all c.loop-digit.digit-index c.args.word.now c.loop-digit-test.false in
     let value : c.loop-digit.value ≡ value_of c.args.word.now = c.loop-digit.invariant.value ∙ ap value_of whole in
-    ap (λ (n : ℕ). Some n) value ∙ sym (is_read c.args.word.now (not_empty (length c.args.word.now) c.if-is_empty.ensures) c.if-word-gt20.false (ap (list_all is_ascii_digit) (sym whole) ∙ c.loop-digit.invariant.digits) (omega (arith, value, c.loop-digit.invariant.small)))
+    ap (λ (n : ℕ). Some n) value ∙ sym (is_read c.args.word.now (not_empty (length c.args.word.now) c.if-is_empty.ensures) c.if-word-gt-MOST_DIGITS.false (ap (list_all is_ascii_digit) (sym whole) ∙ c.loop-digit.invariant.digits) (omega (arith, value, c.loop-digit.invariant.small)))

@@ -1,0 +1,187 @@
+//! Calls of the program over forms in memory.
+use super::*;
+use std::test::Fail;
+use xet_service::{CacheNote, CacheRefusal, PlanVersion, PlannedLink};
+use xet_types::{
+    ChunkRange, FormatFault, HttpRange, Items, MemorySink, MemorySource, MerkleHash, Octets,
+    Refusal, XorbRangeDescriptor, XorbReconstructionTerm,
+};
+
+/// How a call ends, as the text of its status, and how many bytes it writes.
+fn call(
+    alloc: Global,
+    words: &[&str],
+    script: &[u8],
+    failing: &[u64],
+) -> Result<(Status, usize), Fail> {
+    let mut texts = Vec::new(alloc);
+    for word in words {
+        texts.push(String::from_str(alloc, word)?)?;
+    }
+    let mut source = MemorySource::new(alloc, script, failing)?;
+    let mut sink = MemorySink::new(alloc, &[])?;
+    let status = run_script(alloc, &texts, &mut source, &mut sink);
+    Ok((status, sink.taken().len()))
+}
+
+#[test]
+fn statuses(rt: HostRuntime) -> Result<(), Fail> {
+    let cases: [(&[&str], &[u8], &[u64], Status); 7] = [
+        (&["memory"], b"", &[], Status::Done),
+        (&["memory"], b"# nothing\r\n\n", &[], Status::Done),
+        (&["memory"], b"0 frob", &[], Status::BadLine(1)),
+        (&[], b"", &[], Status::Usage),
+        (&["memory", "memory"], b"0 frob", &[], Status::Usage),
+        (&["memory"], b"0 frob", &[0], Status::ReadFault),
+        (&["memory"], b"0 frob", &[1], Status::ReadFault),
+    ];
+    for (words, script, failing, expected) in cases {
+        let got = call(rt.alloc(), words, script, failing)?;
+        assert_eq!(rt; got.0, expected);
+        assert_eq!(rt; got.1, 0);
+    }
+    Ok(())
+}
+
+#[test]
+fn too_long(rt: HostRuntime) -> Result<(), Fail> {
+    let script = vec![in rt.alloc(); b'#'; 67_108_865]?;
+    let got = call(rt.alloc(), &["memory"], &script, &[])?;
+    assert_eq!(rt; got.0, Status::TooLong);
+    Ok(())
+}
+
+/// A reply for each line of the format, and what it prints.
+fn replies(alloc: Global) -> Result<Vec<Reply>, Fail> {
+    let hash = MerkleHash::from_bytes([0xaa; 32]);
+    let note = CacheNote {
+        hits: 1,
+        stored: 2,
+        refused: Some(CacheRefusal::BadRange),
+    };
+    let range = |s, e, from, to| XorbRangeDescriptor {
+        chunks: ChunkRange::new(s, e),
+        bytes: HttpRange::new(from, to),
+    };
+    let mut terms = Vec::new(alloc);
+    terms.push(XorbReconstructionTerm {
+        hash,
+        unpacked_length: 3,
+        range: ChunkRange::new(0, 1),
+    })?;
+    let mut ranges = Vec::new(alloc);
+    ranges.push(range(0, 1, 0, 10))?;
+    ranges.push(range(2, 4, 20, 4294967296))?;
+    let mut links = Vec::new(alloc);
+    links.push(PlannedLink {
+        hash,
+        url: Octets::from_vec(Vec::from_slice(alloc, b"url")?)?,
+        ranges: Items::from_vec(ranges),
+    })?;
+    let mut all = Vec::new(alloc);
+    all.push(Reply::Uploaded(99))?;
+    all.push(Reply::ShardTaken(true))?;
+    all.push(Reply::NoPlan)?;
+    all.push(Reply::Planned {
+        read: 18446744073709551615,
+        version: PlanVersion::V1,
+        offset: 10,
+        terms: Items::from_vec(terms),
+        links: Items::from_vec(links),
+    })?;
+    all.push(Reply::Fetched {
+        read: 0,
+        link: 7,
+        left: 1,
+        wire: 11,
+        cache: note,
+    })?;
+    all.push(Reply::Finished {
+        read: 0,
+        bytes: Octets::from_vec(Vec::from_slice(alloc, b"abc\xff")?)?,
+        wire: 0,
+        cache: CacheNote {
+            hits: 0,
+            stored: 0,
+            refused: None,
+        },
+    })?;
+    all.push(Reply::Refused(Refusal::FormatError(FormatFault::Shard)))?;
+    all.push(Reply::Refused(Refusal::XORBNotFound(hash)))?;
+    all.push(Reply::Refused(Refusal::HttpStatus(500)))?;
+    Ok(all)
+}
+
+const LINES: &str = "\
+xorb 99
+shard true
+none
+plan 18446744073709551615 v1 offset 10 terms 1 links 1
+term aaaaaaaaaaaaaaaaaaaaaaaaaaaaaaaaaaaaaaaaaaaaaaaaaaaaaaaaaaaaaaaa 0-1 3
+link 0 url 0-1@0-10,2-4@20-4294967296
+fetched 0 7 left 1 wire 11 hits 1 stored 2 refused bad-range
+finished 0 wire 0 hits 0 stored 0 refused none 616263ff
+refused format-shard
+refused xorb aaaaaaaaaaaaaaaaaaaaaaaaaaaaaaaaaaaaaaaaaaaaaaaaaaaaaaaaaaaaaaaa
+refused status 500
+";
+
+#[test]
+fn printed_lines(rt: HostRuntime) -> Result<(), Fail> {
+    let replies = replies(rt.alloc())?;
+    let mut sink = MemorySink::new(rt.alloc(), &[])?;
+    let status = write_replies(rt.alloc(), &mut sink, &replies);
+    assert_eq!(rt; status, Status::Done);
+    assert_eq!(rt; std::str::from_utf8(sink.taken())?, LINES);
+    Ok(())
+}
+
+#[test]
+fn a_sink_that_fails(rt: HostRuntime) -> Result<(), Fail> {
+    let bytes = vec![in rt.alloc(); 0u8; 100_000]?;
+    let mut replies = Vec::new(rt.alloc());
+    replies.push(Reply::Finished {
+        read: 0,
+        bytes: Octets::from_vec(bytes)?,
+        wire: 0,
+        cache: CacheNote {
+            hits: 0,
+            stored: 0,
+            refused: None,
+        },
+    })?;
+    for failing in 0..4u64 {
+        let mut sink = MemorySink::new(rt.alloc(), &[failing])?;
+        let status = write_replies(rt.alloc(), &mut sink, &replies);
+        assert_eq!(rt; status, Status::WriteFault);
+        assert!(rt; sink.taken().len() < 200_048);
+    }
+    let mut sink = MemorySink::new(rt.alloc(), &[4])?;
+    let status = write_replies(rt.alloc(), &mut sink, &replies);
+    assert_eq!(rt; status, Status::Done);
+    assert_eq!(rt; sink.taken().len(), 200_048);
+    Ok(())
+}
+
+#[test]
+fn texts_and_exits(rt: HostRuntime) -> Result<(), Fail> {
+    let cases = [
+        (Status::Done, 0, "done"),
+        (
+            Status::Usage,
+            2,
+            "usage: xet_demo (memory or local DIR) [cache DIR CAPACITY SEED] [make N], or threads N",
+        ),
+        (Status::BadLine(7), 3, "line 7: not a command"),
+        (Status::ReadFault, 4, "input could not be read"),
+        (Status::WriteFault, 5, "output could not be written"),
+        (Status::TooLong, 6, "script longer than 67108864 bytes"),
+        (Status::OutOfMemory, 9, "out of memory"),
+    ];
+    for (status, exit, text) in cases {
+        assert_eq!(rt; status.exit(), exit);
+        let printed = format!(in rt.alloc(); "{status}")?;
+        assert_eq!(rt; printed.as_str(), text);
+    }
+    Ok(())
+}

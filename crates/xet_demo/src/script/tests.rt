@@ -1,0 +1,66 @@
+//! Lines inside the grammar and outside it.
+use super::*;
+use std::test::Fail;
+
+const HASH: &str = "4f8b42c22dd3729b519ba6f68d2da7cc5b2d606d05daed5ad5128cc03e6c6358";
+
+/// How many steps a script has, or the number of its first bad line, as a text.
+fn outcome(alloc: Global, script: &[u8]) -> Result<String, Fail> {
+    match parse_script(alloc, script) {
+        Ok(steps) => Ok(format!(in alloc; "{} steps", steps.len())?),
+        Err(ScriptError::BadLine(n)) => Ok(format!(in alloc; "line {n}")?),
+        Err(ScriptError::OutOfMemory) => Ok(format!(in alloc; "memory")?),
+    }
+}
+
+#[test]
+fn lines(rt: HostRuntime) -> Result<(), Fail> {
+    let cases: [(&[u8], &str); 20] = [
+        (b"", "0 steps"),
+        (b"\n\r\n# a comment\r\n", "0 steps"),
+        (b"6 fetch 0 0", "1 steps"),
+        (b"6 fetch 0 0\r\n7 fetch 0 1\n", "2 steps"),
+        (b"6 fetch 0 0\r", "line 1"),
+        (b"6 fetch 0 0\r\r\n", "line 1"),
+        (b"# \x80\n", "line 1"),
+        (b"\n0 frob", "line 2"),
+        (b"00000000000000000006 fetch 0 0", "1 steps"),
+        (b"000000000000000000006 fetch 0 0", "line 1"),
+        (b"18446744073709551615 fetch 0 4294967295", "1 steps"),
+        (b"18446744073709551616 fetch 0 0", "line 1"),
+        (b"6 fetch 0 4294967296", "line 1"),
+        (b" 6 fetch 0 0", "line 1"),
+        (b"6 fetch  0 0", "line 1"),
+        (b"6 fetch 0 0 ", "line 1"),
+        (b"0 shard -\n0 shard aB\n", "2 steps"),
+        (b"0 shard \n", "line 1"),
+        (b"0 shard abc\n", "line 1"),
+        (b"0 shard ag\n", "line 1"),
+    ];
+    for (script, expected) in cases {
+        let got = outcome(rt.alloc(), script)?;
+        assert_eq!(rt; got.as_str(), expected);
+    }
+    Ok(())
+}
+
+#[test]
+fn hashes_and_ranges(rt: HostRuntime) -> Result<(), Fail> {
+    let cases = [
+        ("all", "1 steps"),
+        ("5-2", "1 steps"),
+        ("0-18446744073709551615", "1 steps"),
+        ("1-2-3", "line 1"),
+        ("1-", "line 1"),
+        ("All", "line 1"),
+    ];
+    for (range, expected) in cases {
+        let script = format!(in rt.alloc(); "0 plan1 {HASH} {range}")?;
+        let got = outcome(rt.alloc(), script.as_bytes())?;
+        assert_eq!(rt; got.as_str(), expected);
+    }
+    let capitals = b"0 plan1 4F8B42C22DD3729B519BA6F68D2DA7CC5B2D606D05DAED5AD5128CC03E6C6358 all";
+    let got = outcome(rt.alloc(), capitals)?;
+    assert_eq!(rt; got.as_str(), "1 steps");
+    Ok(())
+}
