@@ -5,6 +5,8 @@ use Rattle.std.specs.Global.{Vec}
 use Rattle.xet_types.specs.Faults.{Rose}
 use Rattle.xet_service.specs.declared.step.Step.{Step}
 use Rattle.xet_service.specs.declared.reply.Reply.{Reply}
+use Rattle.xet_service.specs.World.{State, start, Numbered}
+use Rattle.xet_service.specs.Headline.{RanKeeping, NoneOpen}
 use Rattle.xet_demo.specs.Script.{lines_of, AreStepsOf, IsFirstBad}
 use Rattle.xet_demo.specs.Pages.{WritesFront}
 use Rattle.xet_demo.specs.Printed.{replies_text}
@@ -32,9 +34,12 @@ limit = 67108864
 abbrev pub piece : ℕ
 piece = 65536
 
--- the replies are those of a run of the steps
-abbrev pub Answered : List Step → List Reply → Type 0
-Answered steps replies = length replies ≡ length steps
+-- The replies are those of a run of the steps from the start, which keeps the headline; what it asks of a start holds of this one.
+pub record Answered (steps : List Step) (replies : List Reply) : Type 0 where
+  pub end : State
+  pub ran : RanKeeping start steps [] replies end
+  pub none_open : NoneOpen start
+  pub numbered : Numbered start
 
 -- These bytes were read, they are all that the source had and no more than the limit, and no call failed.
 pub record WasRead (old new : Option (List ℕ)) (before now : ℕ) (script : List ℕ) : Type 0 where

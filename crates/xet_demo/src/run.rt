@@ -10,7 +10,7 @@ use crate::script::{ScriptError, parse_script};
 use crate::words::is_memory;
 use std::alloc::Global;
 use std::fmt;
-use xet_service::{Reply, Step};
+use xet_service::{ChunkService, Reply, Step, run_steps};
 use xet_types::{Failed, OutOfMemory, Sink, Source};
 
 /// How many bytes a script may have.
@@ -113,10 +113,10 @@ fn read_steps<S: Source>(alloc: Global, source: &mut S) -> Result<Vec<Step>, Sta
 fn replies_of(alloc: Global, steps: &[Step]) -> Result<Vec<Reply>, OutOfMemory>
     ensures { IfOk result (λ replies. Answered steps.now replies.items) }
 {
-    if steps.is_empty() {
-        return Ok(Vec::new(alloc));
-    }
-    Err(OutOfMemory)
+    let mut service = ChunkService::new(alloc);
+    let mut replies = Vec::new(alloc);
+    run_steps(alloc, &mut service, steps, &mut replies)?;
+    Ok(replies)
 }
 
 /// Writes the lines of replies. No memory is taken once something was written.
