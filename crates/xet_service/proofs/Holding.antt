@@ -7,8 +7,8 @@ use Rattle.std.specs.Prelude.{◌&&◌, nat_le}
 use Rattle.std.specs.List.{flat_map, concat, AllByRecursion}
 use Rattle.std.specs.List.Sorted.{IsPartitionedBy}
 use Rattle.std.specs.Option.{is_some, is_none}
-use Rattle.std.specs.Cmp.Lexicographic.{slice_cmp, nat_list_cmp_total, bytes_decides}
-use Rattle.std.specs.Ordering.{nat_cmp, is_eq}
+use Rattle.std.specs.Cmp.Lexicographic.{nat_list_cmp_total, bytes_decides}
+use Rattle.std.specs.Ordering.{is_eq}
 use Rattle.std.specs.Cmp.{tied_itself}
 use Rattle.std.proofs.lemmas.Map.Text.{is_eq-slice_cmp}
 use Rattle.std.specs.declared.cmp.Ordering.TheVariants.{Less, Equal, Greater}
@@ -139,7 +139,6 @@ begins_true s t e = of (hash_cmp s.hash t.hash) refl e
 pub begins_back : (s : Slot) (t : XorbReconstructionTerm) → Begins s t → begins_by s t ≡ true
 begins_back s t (inl e) = ap (λ (o : Ordering). begins_in o s t) e
 begins_back s t (inr p) = ap (λ (o : Ordering). begins_in o s t) (same_equal s.hash t.hash p.0) ∙ le-leb s.range.chunk_range.start t.range.start p.1
-
 
 -- ---- the link that holds a term's chunks
 

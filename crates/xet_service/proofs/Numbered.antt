@@ -7,7 +7,6 @@ use Rattle.std.specs.FinMap.{FinMap, get, insert, remove, get-insert, get-remove
 use Rattle.xet_store.specs.StoreModel.{Chunks}
 use Rattle.xet_service.specs.declared.slots.Slot.{Slot}
 use Rattle.xet_service.specs.Reads.{Read, is_left, count_left, left_slot, take_slot}
-use Rattle.xet_service.specs.World.{State, Numbered}
 
 -- ---- reads by number
 

@@ -39,8 +39,7 @@ held_terms known clip rs (p ∷ ps) o r m all =
     let start = (span (kept known clip p)).start in
     let end = (span (kept known clip p)).end in
     let rises : start < end = span_rises known clip p (span_of known clip p r.0 m.0) in
-    let t : XorbReconstructionTerm = term p.segment.xorb_hash (kept known clip p) in
-    (
+    let t : XorbReconstructionTerm = term p.segment.xorb_hash (kept known clip p) in (
       is_held rs t (omega (arith, rises)) (one_has_all rs p.segment.xorb_hash start end o rises (λ k low high. all p.segment.xorb_hash k (cuts_have known clip (p ∷ ps) r m p.segment.xorb_hash k (inl (refl, low, high))))),
       held_terms known clip rs ps o r.1 m.1 (λ h k q. all h k (has_right (kept known clip p) (flat_map (kept known clip) ps) h k q)),
     )

@@ -85,9 +85,9 @@ pub runs_once : (at : ℕ) (rs : List Run) → InOrder (map slot_of rs) → Each
 runs_once at [] o = tt
 runs_once at (r ∷ rs) o = (
   λ h k p q.
-    (let a : RunHas r h k = link_run at r h k p in
-    let past : r.range.chunk_range.end < k = later_past r rs h k o.0 a.0 (links_runs at rs h k q) in
-    absurd (omega (arith, past, a.2))),
+      (let a : RunHas r h k = link_run at r h k p in
+      let past : r.range.chunk_range.end < k = later_past r rs h k o.0 a.0 (links_runs at rs h k q) in
+      absurd (omega (arith, past, a.2))),
   runs_once at rs o.1,
 )
 

@@ -1,11 +1,11 @@
 -- A run that goes on by one step, and what it keeps.
-use Rattle.std.proofs.Common.{◌≡◌, ℕ, ◌+◌, ◌<◌, List, [], ◌∷◌, ◌++◌, length, map, get_or, take, refl, sym, ap, subst, ◌∙◌, append_assoc, Result, Ok, Err}
+use Rattle.std.proofs.Common.{◌≡◌, ℕ, ◌+◌, ◌<◌, List, [], ◌∷◌, ◌++◌, length, get_or, take, refl, sym, ap, ◌∙◌, append_assoc, Result, Ok, Err}
 use Rattle.std.proofs.lemmas.List.{append-nil, take_more, map-append}
 use Rattle.xet_service.specs.declared.step.Step.{Step}
 use Rattle.xet_service.specs.declared.reply.Reply.{Reply}
 use Rattle.xet_service.specs.World.{State}
-use Rattle.xet_service.specs.Runs.{World, world, fixed_after, StepsTo, Event, IsStep, Chain, IsRun, Ran, RanInPart, Runs, step_of, reply_of}
-use Rattle.xet_service.specs.Headline.{Headline, RanKeeping, KeepsInPart, RunsKeeping}
+use Rattle.xet_service.specs.Runs.{World, world, fixed_after, StepsTo, Event, IsStep, Chain, Ran, Runs, step_of, reply_of}
+use Rattle.xet_service.specs.Headline.{Headline, RanKeeping, RunsKeeping}
 use Rattle.xet_service.proofs.Planned.{planned_some, planned_empty, planned_good}
 use Rattle.xet_service.proofs.Kept.{PlanFacts, finishes}
 use Rattle.xet_service.proofs.Succeeds.{succeeds}

@@ -1,5 +1,5 @@
 -- What the service's own calls leave.
-use Rattle.std.proofs.Common.{◌≡◌, ℕ, zero, suc, Bool, true, false, cond, List, [], ◌∷◌, map, length, Option, Some, None, Result, Ok, Err, IfOk, refl, sym, ap, subst, ◌∙◌}
+use Rattle.std.proofs.Common.{◌≡◌, ℕ, zero, suc, Bool, true, false, cond, List, [], ◌∷◌, map, Option, Some, None, Result, Ok, Err, IfOk, refl, sym, ap, subst, ◌∙◌}
 use Rattle.std.specs.List.{AllByRecursion}
 use Rattle.std.specs.Ordering.{nat_cmp, eq_by_cmp, is_eq}
 use Rattle.std.specs.Cmp.{tied_itself}
@@ -15,7 +15,6 @@ use Rattle.xet_shard.specs.declared.listing.Segment.{Segment}
 use Rattle.xet_store.specs.Answered.{Answered, AnsweredErr}
 use Rattle.xet_store.specs.StoreModel.{Chunks}
 use Rattle.xet_service.specs.declared.reply.CacheNote.{CacheNote}
-use Rattle.xet_service.specs.declared.reply.Reply.{Reply}
 use Rattle.xet_service.specs.declared.reply.Reply.TheVariants.{Fetched, Finished}
 use Rattle.xet_service.specs.Links.{Run, slot_of, runs_of}
 use Rattle.xet_service.specs.Reads.{Read, HasChunks, taken, count_left, assembled}
@@ -68,6 +67,7 @@ module _ (E : Type 0) (s : State) (read link wire : ℕ) (chunks : Chunks) (held
     where
       put_it : closed ≡ insert s.reads read (taken held link chunks)
       put_it = closed_is ∙ ap (λ (m : FinMap nat_cmp Read). insert m read after) opened_is ∙ put_twice s.reads read other after ∙ ap (λ (r : Read). insert s.reads read r) after_is
+
       of : (k : ℕ) → TakesLast (taken held link chunks) k None → left ≡ k → fetch_done s read link wire (taken held link chunks) k ≡ (Ok (Fetched read link left wire note), record s { reads = closed })
       of zero t e = absurd cc
       of (suc k) t e = rw (e, note_is, put_it) refl
@@ -80,6 +80,7 @@ module _ (E : Type 0) (s : State) (read link wire : ℕ) (chunks : Chunks) (held
     where
       gone_it : closed ≡ remove s.reads read
       gone_it = closed_is ∙ ap (λ (m : FinMap nat_cmp Read). remove m read) opened_is ∙ gone_put s.reads read other
+
       of : (k : ℕ) → TakesLast (taken held link chunks) k (Some bytes) → fetch_done s read link wire (taken held link chunks) k ≡ (Ok (Finished read bytes wire note), record s { reads = closed })
       of zero t = let b : bytes ≡ assembled (taken held link chunks) = cc in rw (b, note_is, gone_it) refl
       of (suc k) t = absurd cc

@@ -1,5 +1,5 @@
 -- Why a step is answered as it is.
-use Rattle.std.specs.Prelude.{◌≡◌, ℕ, ◌<◌, ◌≤◌, true, List, length, ◌⊎◌, Option, Some, None, ◌↔◌}
+use Rattle.std.specs.Prelude.{◌≡◌, ℕ, ◌<◌, ◌≤◌, true, List, length, ◌⊎◌, Option, Some, None}
 use Rattle.std.specs.FinMap.{get}
 use Rattle.xet_types.specs.declared.error.Refusal.{Refusal}
 use Rattle.xet_types.specs.declared.error.Refusal.TheVariants.{FormatError, InvalidRange, InvalidArguments, FileNotFound, XORBNotFound, PresignedUrlExpirationError, IOError, Other, InvalidKey, CacheError, HttpStatus}
@@ -13,7 +13,7 @@ use Rattle.xet_shard.specs.Values.{size_of}
 use Rattle.xet_xorb.specs.XorbBytes.{IsXorbText}
 use Rattle.xet_plan.specs.Places.{Interval, reach, first_fault}
 use Rattle.xet_plan.specs.declared.place.Reach.TheVariants.{Past, Reversed, Within}
-use Rattle.xet_store.specs.StoreModel.{StoreModel, Chunks, stored, listing, known_of}
+use Rattle.xet_store.specs.StoreModel.{Chunks, stored, listing, known_of}
 use Rattle.xet_store.specs.Commands.{IsMisnamed}
 use Rattle.xet_service.specs.declared.step.Act.{Act}
 use Rattle.xet_service.specs.declared.step.Act.TheVariants.{UploadXorb, UploadShard, Plan, Fetch}

@@ -1,12 +1,12 @@
 -- What each act answers and leaves.
-use Rattle.std.specs.Prelude.{◌≡◌, ℕ, zero, suc, ◌+◌, ◌-◌, ◌==◌, Bool, List, [], ◌∷◌, Option, Some, None, Result, Ok, Err, if◌then◌else◌}
+use Rattle.std.specs.Prelude.{◌≡◌, ℕ, zero, suc, ◌+◌, ◌-◌, ◌==◌, Bool, List, [], Option, Some, None, Result, Ok, Err, if◌then◌else◌}
 use Rattle.std.specs.FinMap.{get, insert, remove}
 use Rattle.xet_types.specs.declared.error.Refusal.{Refusal}
 use Rattle.xet_types.specs.declared.error.Refusal.TheVariants.{InvalidArguments}
 use Rattle.xet_types.specs.declared.range.Range.{Range}
 use Rattle.xet_types.specs.declared.range._F.{_F}
 use Rattle.xet_plan.specs.Plans.{PlanModel}
-use Rattle.xet_store.specs.StoreModel.{StoreModel, Chunks, stored}
+use Rattle.xet_store.specs.StoreModel.{StoreModel, Chunks}
 use Rattle.xet_store.specs.Commands.{UploadsXorb, UploadsShard}
 use Rattle.xet_store.specs.Plans.{PlansFile}
 use Rattle.xet_store.specs.Cuts.{cut_of}

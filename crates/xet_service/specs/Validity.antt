@@ -15,10 +15,8 @@ use Rattle.xet_service.specs.declared.step.Act.TheVariants.{Plan, Fetch}
 use Rattle.xet_service.specs.declared.step.PlanVersion.{PlanVersion}
 use Rattle.xet_service.specs.declared.step.PlanVersion.TheVariants.{V1}
 use Rattle.xet_service.specs.declared.reply.PlannedLink.{PlannedLink}
-use Rattle.xet_service.specs.declared.reply.CacheNote.{CacheNote}
 use Rattle.xet_service.specs.declared.reply.Reply.{Reply}
 use Rattle.xet_service.specs.declared.reply.Reply.TheVariants.{Planned, Fetched, Finished}
-use Rattle.xet_service.specs.World.{State}
 use Rattle.xet_service.specs.Steps.{used_up, no_note}
 use Rattle.xet_service.specs.Runs.{Event}
 

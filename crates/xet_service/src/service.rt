@@ -173,7 +173,9 @@ impl ChunkService {
         let Some(wanted) = open.left_slot(link) else {
             return Err(ClientError::InvalidArguments);
         };
-        let chunks = self.store.cut(alloc, &wanted.hash, wanted.range.chunk_range)?;
+        let chunks = self
+            .store
+            .cut(alloc, &wanted.hash, wanted.range.chunk_range)?;
         let bytes = wanted.range.byte_range;
         let wire = bytes.end.saturating_sub(bytes.start);
         let reply = self.take(alloc, read, link, wire, chunks)?;

@@ -1,4 +1,4 @@
-use Rattle.std.proofs.Common.{◌≡◌, ◌∙◌, ℕ, List, ap, append_assoc}
+use Rattle.std.proofs.Common.{◌≡◌, ◌∙◌, ap, append_assoc}
 use Rattle.std.specs.String.{string_vec}
 use Rattle.xet_service.specs.Links.{url_of}
 use Rattle.xet_service.proofs.Serving.{ok_so}

@@ -1,4 +1,4 @@
-use Rattle.std.proofs.Common.{◌≡◌, ◌∙◌, sym, subst, List, get_or}
+use Rattle.std.proofs.Common.{◌≡◌, ◌∙◌, subst, List, get_or}
 use Rattle.xet_service.specs.declared.slots.Slot.{Slot}
 use Rattle.xet_service.proofs.Holding.{put_is}
 use Rattle.xet_service.proofs.read.put.Goals as goal

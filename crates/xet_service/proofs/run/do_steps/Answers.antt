@@ -8,4 +8,4 @@ pub loop-next-preserved : goal.loop-next-preserved
 loop-next-preserved c =
     rw (c.in_ok-push.ensures.items, c.in_ok-reserve.ensures.items)
     (ran_to c.args.service.now c.loop-next.service c.step.new.service c.args.steps.now c.loop-next.next-index c.next-item.result c.in_ok-reply.reply c.args.replies.now.items c.loop-next.replies.items
-        c.loop-next-test.true c.next-item.is c.loop-next.invariant c.in_ok-reply.ensures.ok)
+    c.loop-next-test.true c.next-item.is c.loop-next.invariant c.in_ok-reply.ensures.ok)

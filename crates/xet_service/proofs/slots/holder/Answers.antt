@@ -1,4 +1,4 @@
-use Rattle.std.proofs.Common.{◌≡◌, ◌∙◌, ◌<◌, ◌-◌, ap, sym, subst, arith, rules, true, false, length}
+use Rattle.std.proofs.Common.{◌≡◌, ◌∙◌, ◌-◌, ap, sym, arith, rules, true}
 use Rattle.std.proofs.lemmas.List.Sorted.{IsPartitionPoint-from_clause}
 use Rattle.xet_service.specs.declared.slots.Slot.{Slot}
 use Rattle.xet_service.specs.Reads.{begins_by}
@@ -14,7 +14,7 @@ pub returns-then-holds : goal.returns-then-holds
 returns-then-holds c =
     let some = above_none c.partition_point-after.result c.if-after-eq0.false in
     sym (holder_at c.args.slots.now c.args.term.now (c.partition_point-after.result - 1) c.index-slots-after.result c.requires.order
-        (omega (arith, some, c.partition_point-after.ensures.bound)) c.index-slots-after.is (sym c.holds.ensures ∙ c.if-holds.true))
+    (omega (arith, some, c.partition_point-after.ensures.bound)) c.index-slots-after.is (sym c.holds.ensures ∙ c.if-holds.true))
 
 pub returns-else-holds : goal.returns-else-holds
 returns-else-holds c =
@@ -23,5 +23,5 @@ returns-else-holds c =
     let slot = c.index-slots-after.result in
     let begins : begins_by slot c.args.term.now ≡ true = ap (λ (s : Slot). begins_by s c.args.term.now) c.index-slots-after.is ∙ point.0 (c.partition_point-after.result - 1) slot (omega arith) (omega (arith, some)) in
     sym (holder_gap c.args.slots.now c.args.term.now (c.partition_point-after.result - 1) slot c.requires.order
-        (omega (arith, some, c.partition_point-after.ensures.bound)) c.index-slots-after.is begins (sym c.holds.ensures ∙ c.if-holds.false)
-        (λ i d lo li. point.1 i d (omega (arith, some, lo)) li))
+    (omega (arith, some, c.partition_point-after.ensures.bound)) c.index-slots-after.is begins (sym c.holds.ensures ∙ c.if-holds.false)
+    (λ i d lo li. point.1 i d (omega (arith, some, lo)) li))

@@ -1,4 +1,4 @@
-use Rattle.std.proofs.Common.{◌≡◌, ◌∙◌, ap, sym, arith}
+use Rattle.std.proofs.Common.{◌∙◌, ap, sym}
 use Rattle.std.specs.Option.{option_map}
 use Rattle.xet_service.specs.Wants.{wanted_of}
 use Rattle.xet_service.proofs.Holding.{left_none, some_is_left, none_is_left}

@@ -1,6 +1,5 @@
-use Rattle.std.proofs.Common.{◌≡◌, ◌∙◌, ◌<◌, ◌-◌, ℕ, suc, List, Some, None, ap, sym, subst, arith, length}
+use Rattle.std.proofs.Common.{◌≡◌, ◌∙◌, suc, List, Some, None, ap, sym, subst, arith, length}
 use Rattle.std.specs.List.{AllByRecursion}
-use Rattle.xet_store.specs.StoreModel.{Chunks}
 use Rattle.xet_service.specs.declared.slots.Slot.{Slot}
 use Rattle.xet_service.specs.contracts.read.OpenRead.{the_view}
 use Rattle.xet_service.specs.Reads.{Read, InOrder, HasChunks, count_left, left_slot, take_slot, taken, assembled}
@@ -29,9 +28,10 @@ returns-then-self-gt1 c =
     let fewer : suc (count_left c.put.new.slots) ≡ c.self.inside.left = ap (λ (ss : List Slot). suc (count_left ss)) c.put.ensures ∙ count_put c.self.inside.slots c.args.link c.requires.0 c.args.chunks left ∙ sym c.self.invariant.count in
     let slots : c.put.new.slots ≡ take_slot c.self.inside.slots c.args.link c.args.chunks = c.put.ensures ∙ put_some c.self.inside.slots c.args.link c.args.chunks in
     let whole : taken (the_view c.self.inside) c.args.link c.args.chunks ≡ taken c.args.self.now c.args.link c.args.chunks = ap (λ (r : Read). taken r c.args.link c.args.chunks) c.self.view_is in
-    let count : count_left c.put.new.slots ≡ count_left (take_slot c.args.self.now.slots c.args.link c.args.chunks) = ap count_left slots ∙ ap (λ (r : Read). count_left r.slots) whole in
-    (ap (λ (ss : List Slot). record (the_view c.self.inside) { slots = ss }) slots ∙ whole,
-     takes_more (taken c.args.self.now c.args.link c.args.chunks) (count_left (take_slot c.args.self.now.slots c.args.link c.args.chunks)) (omega (arith, count, fewer, c.if-self-gt1.true)))
+    let count : count_left c.put.new.slots ≡ count_left (take_slot c.args.self.now.slots c.args.link c.args.chunks) = ap count_left slots ∙ ap (λ (r : Read). count_left r.slots) whole in (
+      ap (λ (ss : List Slot). record (the_view c.self.inside) { slots = ss }) slots ∙ whole,
+      takes_more (taken c.args.self.now c.args.link c.args.chunks) (count_left (take_slot c.args.self.now.slots c.args.link c.args.chunks)) (omega (arith, count, fewer, c.if-self-gt1.true)),
+    )
 
 pub assembled-requires-clause-order : goal.assembled-requires-clause-order
 assembled-requires-clause-order c =
@@ -76,10 +76,11 @@ returns-in-Ok c =
     let whole : taken (the_view c.self.inside) c.args.link c.args.chunks ≡ taken c.args.self.now c.args.link c.args.chunks = ap (λ (r : Read). taken r c.args.link c.args.chunks) c.self.view_is in
     let count : count_left c.put.new.slots ≡ count_left (take_slot c.args.self.now.slots c.args.link c.args.chunks) = ap count_left slots ∙ ap (λ (r : Read). count_left r.slots) whole in
     let now : record (the_view c.self.inside) { slots = c.put.new.slots } ≡ taken c.args.self.now c.args.link c.args.chunks = ap (λ (ss : List Slot). record (the_view c.self.inside) { slots = ss }) slots ∙ whole in
-    let bytes : c.in-Ok.bytes ≡ assembled (record (the_view c.self.inside) { slots = c.put.new.slots }) = rw (sym c.as_slice.ensures, sym c.as_slice-2.ensures) c.in-Ok.ensures in
-    (now,
-     takes_last (taken c.args.self.now c.args.link c.args.chunks) (count_left (take_slot c.args.self.now.slots c.args.link c.args.chunks)) c.in-Ok.bytes
-        (omega (arith, count, fewer, c.if-self-gt1.false)) (bytes ∙ ap assembled now))
+    let bytes : c.in-Ok.bytes ≡ assembled (record (the_view c.self.inside) { slots = c.put.new.slots }) = rw (sym c.as_slice.ensures, sym c.as_slice-2.ensures) c.in-Ok.ensures in (
+      now,
+      takes_last (taken c.args.self.now c.args.link c.args.chunks) (count_left (take_slot c.args.self.now.slots c.args.link c.args.chunks)) c.in-Ok.bytes
+          (omega (arith, count, fewer, c.if-self-gt1.false)) (bytes ∙ ap assembled now),
+    )
 
 pub returns-in-Err : goal.returns-in-Err
 returns-in-Err c =

@@ -1,4 +1,4 @@
-use Rattle.std.proofs.Common.{◌≡◌, ◌∙◌, ap, refl, subst, Ok, Err, Some, None}
+use Rattle.std.proofs.Common.{refl, subst, Ok, Err, None}
 use Rattle.std.proofs.lemmas.Result.{err_from_is_err_and}
 use Rattle.xet_types.specs.Faults.{refusal_of}
 use Rattle.xet_store.specs.Plans.{PlansFile}
@@ -13,8 +13,8 @@ returns-in_err-plan c =
     let p = err_from_is_err_and c.from_residual.result c.from_residual.ensures.1 in
     rw (p.1, p.2)
     (failed_so _ _ (refusal_of c.in_err-plan.field-0.0)
-        (λ why h. record { answer = Err why; plans = subst (λ (s : State). PlansFile s.store c.args.file.now c.args.range (Err why)) c.self.view_is h; step = refl })
-        (λ h. refl) c.in_err-plan.ensures.answer)
+    (λ why h. record { answer = Err why; plans = subst (λ (s : State). PlansFile s.store c.args.file.now c.args.range (Err why)) c.self.view_is h; step = refl })
+    (λ h. refl) c.in_err-plan.ensures.answer)
 
 pub returns-in_default : goal.returns-in_default
 returns-in_default c =

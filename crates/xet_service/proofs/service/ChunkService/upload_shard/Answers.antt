@@ -1,4 +1,4 @@
-use Rattle.std.proofs.Common.{◌≡◌, ◌∙◌, ℕ, List, ap, refl, subst, Ok, Err}
+use Rattle.std.proofs.Common.{◌∙◌, ℕ, List, ap, refl, subst, Ok, Err}
 use Rattle.std.proofs.lemmas.Result.{err_from_is_err_and}
 use Rattle.xet_store.specs.StoreModel.{StoreModel}
 use Rattle.xet_store.specs.Commands.{UploadsShard}
@@ -14,8 +14,8 @@ returns-in_err-taken c =
     let rest = ap (λ (s : State). record s { store = store }) c.self.view_is in
     rw (p.1, p.2)
     (failed_so _ _ (refusal_of c.in_err-taken.field-0.0)
-        (λ why h. record { answer = Err why; does = subst (λ (s : State). UploadsShard s.store c.args.content.now (Err why) store) c.self.view_is (subst (λ (b : List ℕ). UploadsShard c.self.inside.store b (Err why) store) c.as_bytes.ensures h); reply = refl; rest = rest })
-        (λ same. ap (λ (m : StoreModel). record { store = m; reads = c.self.inside.reads; next = c.self.inside.next }) same ∙ c.self.view_is) c.in_err-taken.ensures)
+    (λ why h. record { answer = Err why; does = subst (λ (s : State). UploadsShard s.store c.args.content.now (Err why) store) c.self.view_is (subst (λ (b : List ℕ). UploadsShard c.self.inside.store b (Err why) store) c.as_bytes.ensures h); reply = refl; rest = rest })
+    (λ same. ap (λ (m : StoreModel). record { store = m; reads = c.self.inside.reads; next = c.self.inside.next }) same ∙ c.self.view_is) c.in_err-taken.ensures)
 
 pub returns : goal.returns
 returns c =
