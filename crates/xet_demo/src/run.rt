@@ -170,4 +170,6 @@ pub fn run_script<S: Source, W: Sink>(
 }
 
 #[cfg(test)]
+mod rows;
+#[cfg(test)]
 mod tests;
