@@ -138,3 +138,6 @@ fn misnamed(alloc: Global) -> ClientError
         Err(_) => ClientError::OutOfMemory,
     }
 }
+
+#[cfg(test)]
+mod tests;
