@@ -4,3 +4,5 @@ pub mod Failures
 pub mod Outside
 pub mod Ranges
 pub mod Keys
+pub mod Records
+pub mod RecordMaps

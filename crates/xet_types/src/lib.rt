@@ -19,7 +19,10 @@ pub use outside::Failed;
 pub use outside::sink::{MemorySink, Sink, StdSink};
 pub use outside::source::{MemorySource, Source, StdSource};
 pub use range::{_C, _F, _H, ChunkRange, FileRange, HttpRange, Range, RangeParseError};
-pub use record::{XorbRangeDescriptor, XorbReconstructionTerm};
+pub use record::{
+    QueryReconstructionResponse, QueryReconstructionResponseV2, XorbMultiRangeFetch,
+    XorbRangeDescriptor, XorbReconstructionFetchInfo, XorbReconstructionTerm,
+};
 
 #[cfg(test)]
 mod tests;

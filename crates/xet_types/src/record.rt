@@ -1,6 +1,15 @@
 //! Records of plans.
+ghost use Rattle.std.specs.Prelude.{◌≡◌, IfOk, map};
+ghost use Rattle.xet_types.specs.Records.{fetch_of, fetches_of, xorb_fetches, second_of};
+ghost use Rattle.xet_types.specs.RecordMaps.{listed};
+
+use crate::error::OutOfMemory;
 use crate::hash::MerkleHash;
+use crate::key::HexMerkleHash;
 use crate::range::{ChunkRange, HttpRange};
+use std::alloc::Global;
+use std::collections::BTreeMap;
+use std::marker::Model;
 
 /// A part of a file: chunks of one xorb, one behind the other.
 #[derive(Clone, Copy, Debug, PartialEq, Eq)]
@@ -20,4 +29,147 @@ pub struct XorbRangeDescriptor {
     pub chunks: ChunkRange,
     /// Their bytes in the xorb, headers among them, with an inclusive end.
     pub bytes: HttpRange,
+}
+
+/// What brings a run of a xorb's chunks, in a plan of version 1.
+#[derive(Debug, Drop)]
+pub struct XorbReconstructionFetchInfo {
+    /// The numbers of the chunks.
+    pub range: ChunkRange,
+    /// The link's text.
+    pub url: String,
+    /// The chunks' bytes in the xorb, headers among them, with an inclusive end.
+    pub url_range: HttpRange,
+}
+
+impl Model for XorbReconstructionFetchInfo {
+    ghost use Rattle.std.specs.String.{string_bytes};
+    ghost use Rattle.xet_types.specs.Records.{FetchInfo};
+
+    ghost Value = { FetchInfo };
+
+    ghost view = { λ f. record { range = f.range; url = string_bytes f.url; url_range = f.url_range } };
+}
+
+/// A plan of version 1: each run of a xorb's chunks has a link of its own.
+#[derive(Debug, Drop)]
+pub struct QueryReconstructionResponse {
+    /// How many bytes of the joined terms stand before the range.
+    pub offset_into_first_range: u64,
+    /// The parts of the file, in file order.
+    pub terms: Vec<XorbReconstructionTerm>,
+    /// What to fetch of each xorb, in order of chunk number.
+    pub fetch_info: BTreeMap<HexMerkleHash, Vec<XorbReconstructionFetchInfo>>,
+}
+
+impl Model for QueryReconstructionResponse {
+    ghost use Rattle.std.specs.Prelude.{map};
+    ghost use Rattle.xet_types.specs.Records.{FirstPlan};
+    ghost use Rattle.xet_types.specs.RecordMaps.{listed};
+
+    ghost Value = { FirstPlan };
+
+    ghost view = { λ p. record { offset_into_first_range = p.offset_into_first_range; terms = p.terms.items; fetch_info = map listed p.fetch_info.entries } };
+}
+
+/// What brings some runs of a xorb's chunks together, in a plan of version 2.
+#[derive(Debug, Drop)]
+pub struct XorbMultiRangeFetch {
+    /// The link's text.
+    pub url: String,
+    /// The runs, in order.
+    pub ranges: Vec<XorbRangeDescriptor>,
+}
+
+impl Model for XorbMultiRangeFetch {
+    ghost use Rattle.std.specs.String.{string_bytes};
+    ghost use Rattle.xet_types.specs.Records.{RangesFetch};
+
+    ghost Value = { RangesFetch };
+
+    ghost view = { λ f. record { url = string_bytes f.url; ranges = f.ranges.items } };
+}
+
+/// A plan of version 2: a link may bring several runs of a xorb's chunks.
+#[derive(Debug, Drop)]
+pub struct QueryReconstructionResponseV2 {
+    /// How many bytes of the joined terms stand before the range.
+    pub offset_into_first_range: u64,
+    /// The parts of the file, in file order.
+    pub terms: Vec<XorbReconstructionTerm>,
+    /// What to fetch of each xorb, in order of chunk number.
+    pub xorbs: BTreeMap<HexMerkleHash, Vec<XorbMultiRangeFetch>>,
+}
+
+impl Model for QueryReconstructionResponseV2 {
+    ghost use Rattle.std.specs.Prelude.{map};
+    ghost use Rattle.xet_types.specs.Records.{SecondPlan};
+    ghost use Rattle.xet_types.specs.RecordMaps.{listed};
+
+    ghost Value = { SecondPlan };
+
+    ghost view = { λ p. record { offset_into_first_range = p.offset_into_first_range; terms = p.terms.items; xorbs = map listed p.xorbs.entries } };
+}
+
+/// A link of one run.
+fn fetch_of(
+    alloc: Global,
+    info: XorbReconstructionFetchInfo,
+) -> Result<XorbMultiRangeFetch, OutOfMemory>
+    ensures { IfOk result (λ fetch. fetch ≡ fetch_of info) }
+{
+    let mut ranges = Vec::with_capacity(alloc, 1)?;
+    ranges.push(XorbRangeDescriptor {
+        chunks: info.range,
+        bytes: info.url_range,
+    })?;
+    Ok(XorbMultiRangeFetch {
+        url: info.url,
+        ranges,
+    })
+}
+
+/// Links of one run each, in the same order.
+fn fetches_of(
+    alloc: Global,
+    infos: Vec<XorbReconstructionFetchInfo>,
+) -> Result<Vec<XorbMultiRangeFetch>, OutOfMemory>
+    ensures { IfOk result (λ fetches. fetches.items ≡ fetches_of infos.items) }
+{
+    let mut fetches = Vec::with_capacity(alloc, infos.len())?;
+    for info in infos {
+        fetches.push(fetch_of(alloc, info)?)?;
+    }
+    Ok(fetches)
+}
+
+/// The links of each xorb, in the same order.
+fn xorbs_of(
+    alloc: Global,
+    fetch_info: BTreeMap<HexMerkleHash, Vec<XorbReconstructionFetchInfo>>,
+) -> Result<BTreeMap<HexMerkleHash, Vec<XorbMultiRangeFetch>>, OutOfMemory>
+    ensures { IfOk result (λ xorbs. map listed xorbs.entries ≡ map xorb_fetches (map listed fetch_info.entries)) }
+{
+    let mut xorbs = BTreeMap::new(alloc);
+    for (hash, infos) in fetch_info {
+        let fetches = fetches_of(alloc, infos)?;
+        xorbs.insert(hash, fetches)?;
+    }
+    Ok(xorbs)
+}
+
+impl QueryReconstructionResponseV2 {
+    /// The same plan in version 2: each entry becomes a link of one run, in the same order.
+    pub fn from_v1(
+        alloc: Global,
+        v1: QueryReconstructionResponse,
+    ) -> Result<QueryReconstructionResponseV2, OutOfMemory>
+        ensures { IfOk result (λ v2. v2 ≡ second_of v1) }
+    {
+        Ok(QueryReconstructionResponseV2 {
+            offset_into_first_range: v1.offset_into_first_range,
+            terms: v1.terms,
+            xorbs: xorbs_of(alloc, v1.fetch_info)?,
+        })
+    }
 }
