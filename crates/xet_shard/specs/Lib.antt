@@ -4,3 +4,4 @@ pub mod ShardBytes
 pub mod ShardReading
 pub mod ShardLengths
 pub mod Canonical
+pub mod Eligible

@@ -1,4 +1,2 @@
 pub mod PastEnd
 pub mod Planning
-pub mod Store
-pub mod Indexed

@@ -1,5 +1,7 @@
 -- What the commands of a store answer and leave.
-use Rattle.std.specs.Prelude.{◌≡◌, ◌≢◌, ℕ, Bool, true, List, Option, Some, None, Result, Ok, Err}
+use Rattle.std.specs.Prelude.{◌≡◌, ◌≢◌, ℕ, Bool, true, List, Option, Some, None, Result, Ok, Err, if◌then◌else◌}
+use Rattle.std.specs.Option.{is_some}
+use Rattle.std.specs.FinMap.{insert, remove}
 use Rattle.xet_types.specs.declared.error.Refusal.{Refusal}
 use Rattle.xet_types.specs.declared.error.Refusal.TheVariants.{FormatError, Other}
 use Rattle.xet_types.specs.declared.error.FormatFault.TheVariants as faults
@@ -10,7 +12,7 @@ use Rattle.xet_xorb.specs.XorbBytes.{IsXorbText}
 use Rattle.xet_shard.specs.Listings.{ShardModel}
 use Rattle.xet_shard.specs.ShardBytes.{IsReadAs}
 use Rattle.xet_shard.specs.Canonical.{canonical_of}
-use Rattle.xet_store.specs.StoreModel.{StoreModel, Chunks, stored, with_xorb, accepted}
+use Rattle.xet_store.specs.StoreModel.{StoreModel, Chunks, stored, with_xorb, accepted, shard_named, without_shard}
 
 -- ---- uploads of xorbs
 
@@ -54,3 +56,31 @@ abbrev pub UploadsShard : StoreModel → List ℕ → Result Bool Refusal → St
 UploadsShard old content (Ok taken) new = (taken ≡ true) × TakesShard old content new
 UploadsShard old content (Err (FormatError faults.Shard)) new = ((shard : ShardModel) → IsReadAs content shard → ⊥) × (new ≡ old)
 UploadsShard old content (Err why) new = ⊥
+
+-- ---- commands that are functions
+
+-- an answer, and the store after it
+abbrev pub Outcome : Type 0 → Type 0
+Outcome T = Result T Refusal × StoreModel
+
+abbrev pub Is : {T : Type 0} → Outcome T → Result T Refusal → StoreModel → Type 0
+Is outcome result new = (result ≡ outcome.0) × (new ≡ outcome.1)
+
+abbrev pub done : StoreModel → Outcome (Unit {0})
+done new = (Ok tt, new)
+
+-- a file is hidden, also where it was, or where nothing lists it
+abbrev pub hide_file : StoreModel → List ℕ → Outcome (Unit {0})
+hide_file old file = done (record old { hidden = insert old.hidden file tt })
+
+-- the shard goes; entries that name it stay
+abbrev pub delete_shard : StoreModel → List ℕ → Outcome (Unit {0})
+delete_shard old name = if is_some (shard_named old.shards name) then done (record old { shards = without_shard old.shards name }) else (Err Other, old)
+
+-- the xorb goes, where it is stored
+abbrev pub delete_xorb : StoreModel → List ℕ → Outcome (Unit {0})
+delete_xorb old hash = done (record old { xorbs = remove old.xorbs hash })
+
+-- the age in milliseconds above which a link is expired
+abbrev pub set_expiration : StoreModel → ℕ → Outcome (Unit {0})
+set_expiration old millis = done (record old { expiration = millis })

@@ -3,5 +3,7 @@ pub mod Answered
 pub mod Commands
 pub mod Plans
 pub mod Cuts
-pub mod Kept
-pub mod Indexed
+pub mod Told
+pub mod Refusals
+pub mod Questions
+pub mod Responses

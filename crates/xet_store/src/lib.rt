@@ -1,6 +1,12 @@
 //! The store: xorbs by hash, shards in order of acceptance, and plans of the files that they list.
 #![tactic(auto)]
 
-pub mod memory;
+pub mod client;
+pub mod deletion;
+pub mod direct_access;
+pub mod store;
 
-pub use memory::MemoryClient;
+pub use client::Client;
+pub use deletion::DeletionControlableClient;
+pub use direct_access::DirectAccessClient;
+pub use store::Store;

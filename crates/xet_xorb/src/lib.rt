@@ -5,12 +5,14 @@ pub mod deserialize;
 pub mod object;
 pub mod read;
 pub mod segment;
+pub mod serialized;
 pub mod write;
 
 pub use deserialize::deserialize_chunks;
 pub use object::{XorbObject, XorbObjectInfoV1};
 pub use read::{ReadXorb, read_xorb};
 pub use segment::append_chunk_segment;
+pub use serialized::SerializedXorbObject;
 pub use write::write_xorb;
 
 #[cfg(test)]

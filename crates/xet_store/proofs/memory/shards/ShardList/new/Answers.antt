@@ -1,5 +1,0 @@
-use Rattle.xet_store.proofs.Indexed.{nothing_indexed}
-use Rattle.xet_store.proofs.memory.shards.ShardList.new.Goals as goal
-
-pub invariant_of-result : goal.invariant_of-result
-invariant_of-result c = nothing_indexed c.new.result.items c.new-2.result c.new-3.result c.new.ensures.items c.new-2.ensures

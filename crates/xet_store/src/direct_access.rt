@@ -1,0 +1,111 @@
+//! What looks into a store directly.
+ghost use Rattle.std.specs.Prelude.{◌≡◌, Some, Ok, IfOk};
+ghost use Rattle.xet_plan.specs.Footers.{FailsOnlyByFault};
+ghost use Rattle.xet_store.specs.StoreModel.{StoreModel};
+ghost use Rattle.xet_store.specs.Told.{Asks, Follows};
+ghost use Rattle.xet_store.specs.Refusals.{RefusedBy, OfOutside, OfPlan, OfXorb, OfXorbBytes, OfFileSize, OfFileData};
+ghost use Rattle.xet_store.specs.Commands.{Is, set_expiration, delete_xorb};
+ghost use Rattle.xet_store.specs.Questions.{xorb_hashes, xorb_exists, xorb_footer, xorb_raw_length, xorb_raw_bytes, file_size, file_data};
+ghost use Rattle.xet_store.specs.Responses.{Responds};
+
+use crate::client::Client;
+use bytes::Bytes;
+use std::alloc::Global;
+use xet_types::{ClientError, FileRange, MerkleHash, QueryReconstructionResponse};
+use xet_xorb::XorbObject;
+
+/// Settings, plans of version 1, and the stored xorbs and files themselves.
+pub trait DirectAccessClient: Client {
+    /// Sets the age in milliseconds above which a link is expired.
+    fn set_fetch_term_url_expiration(&mut self, millis: u64) -> Result<(), ClientError>
+        ensures told { (m : StoreModel) → Self.told self.old ≡ Some m → Follows (Is (set_expiration m millis)) m result (Self.told self.new) }
+        ensures refusals { RefusedBy OfOutside result }
+        ensures cause { FailsOnlyByFault (Self.faults self.old) (Self.faults self.new) result };
+
+    /// The plan of a file, or of a range of its bytes, with a link for each run of chunks, whose texts have the moment in
+    /// milliseconds.
+    ///
+    /// None where the file isn't live or the range begins at or past its end; `InvalidRange` where the range's end isn't above
+    /// its start; else the first fault of a segment that the range meets: `XORBNotFound`, or `FormatError(Segment)`.
+    fn get_reconstruction_v1(
+        &mut self,
+        alloc: Global,
+        file_id: &MerkleHash,
+        bytes_range: Option<FileRange>,
+        at: u64,
+    ) -> Result<Option<QueryReconstructionResponse>, ClientError>
+        ensures told { (m : StoreModel) → Self.told self.old ≡ Some m → Asks (Responds m file_id.now bytes_range at) result }
+        ensures refusals { RefusedBy OfPlan result }
+        ensures stays { Self.told self.new ≡ Self.told self.old }
+        ensures cause { FailsOnlyByFault (Self.faults self.old) (Self.faults self.new) result };
+
+    /// The hashes of the stored xorbs, in order.
+    fn list_xorbs(&mut self, alloc: Global) -> Result<Vec<MerkleHash>, ClientError>
+        ensures told { (m : StoreModel) → Self.told self.old ≡ Some m → IfOk result (λ hashes. hashes.items ≡ xorb_hashes m) }
+        ensures refusals { RefusedBy OfOutside result }
+        ensures stays { Self.told self.new ≡ Self.told self.old }
+        ensures cause { FailsOnlyByFault (Self.faults self.old) (Self.faults self.new) result };
+
+    /// Takes a xorb out, where it is stored.
+    fn delete_xorb(&mut self, alloc: Global, hash: &MerkleHash) -> Result<(), ClientError>
+        ensures told { (m : StoreModel) → Self.told self.old ≡ Some m → Follows (Is (delete_xorb m hash.now)) m result (Self.told self.new) }
+        ensures refusals { RefusedBy OfOutside result }
+        ensures cause { FailsOnlyByFault (Self.faults self.old) (Self.faults self.new) result };
+
+    /// What is known of a xorb without its bytes. `XORBNotFound` where it isn't stored.
+    fn xorb_footer(&mut self, alloc: Global, hash: &MerkleHash) -> Result<XorbObject, ClientError>
+        ensures told { (m : StoreModel) → Self.told self.old ≡ Some m → Asks (λ r. r ≡ xorb_footer m hash.now) result }
+        ensures refusals { RefusedBy (OfXorb hash.now) result }
+        ensures stays { Self.told self.new ≡ Self.told self.old }
+        ensures cause { FailsOnlyByFault (Self.faults self.old) (Self.faults self.new) result };
+
+    /// The length of a xorb in bytes with its footer. `XORBNotFound` where it isn't stored.
+    fn xorb_raw_length(&mut self, alloc: Global, hash: &MerkleHash) -> Result<u64, ClientError>
+        ensures told { (m : StoreModel) → Self.told self.old ≡ Some m → Asks (λ r. r ≡ xorb_raw_length m hash.now) result }
+        ensures refusals { RefusedBy (OfXorb hash.now) result }
+        ensures stays { Self.told self.new ≡ Self.told self.old }
+        ensures cause { FailsOnlyByFault (Self.faults self.old) (Self.faults self.new) result };
+
+    /// Whether a xorb is stored.
+    fn xorb_exists(&mut self, alloc: Global, hash: &MerkleHash) -> Result<bool, ClientError>
+        ensures told { (m : StoreModel) → Self.told self.old ≡ Some m → Asks (λ r. r ≡ Ok (xorb_exists m hash.now)) result }
+        ensures refusals { RefusedBy OfOutside result }
+        ensures stays { Self.told self.new ≡ Self.told self.old }
+        ensures cause { FailsOnlyByFault (Self.faults self.old) (Self.faults self.new) result };
+
+    /// The size of a live file in bytes. `FileNotFound` where it isn't live.
+    fn get_file_size(&mut self, alloc: Global, hash: &MerkleHash) -> Result<u64, ClientError>
+        ensures told { (m : StoreModel) → Self.told self.old ≡ Some m → Asks (λ r. r ≡ file_size m hash.now) result }
+        ensures refusals { RefusedBy (OfFileSize hash.now) result }
+        ensures stays { Self.told self.new ≡ Self.told self.old }
+        ensures cause { FailsOnlyByFault (Self.faults self.old) (Self.faults self.new) result };
+
+    /// A live file's bytes, or those in a range.
+    ///
+    /// `FileNotFound` where it isn't live; `InvalidRange` where the range begins at or past its end, or ends below its start;
+    /// else the first fault of a segment that the range meets: `XORBNotFound`, or `FormatError(Segment)`.
+    fn get_file_data(
+        &mut self,
+        alloc: Global,
+        hash: &MerkleHash,
+        byte_range: Option<FileRange>,
+    ) -> Result<Bytes, ClientError>
+        ensures told { (m : StoreModel) → Self.told self.old ≡ Some m → Asks (λ r. r ≡ file_data m hash.now byte_range) result }
+        ensures refusals { RefusedBy (OfFileData hash.now) result }
+        ensures stays { Self.told self.new ≡ Self.told self.old }
+        ensures cause { FailsOnlyByFault (Self.faults self.old) (Self.faults self.new) result };
+
+    /// The bytes of a xorb with its footer, or those in a range, whose end may be past theirs.
+    ///
+    /// `XORBNotFound` where it isn't stored; `InvalidRange` where the range begins at or past their end, or ends below its start.
+    fn get_xorb_raw_bytes(
+        &mut self,
+        alloc: Global,
+        hash: &MerkleHash,
+        byte_range: Option<FileRange>,
+    ) -> Result<Bytes, ClientError>
+        ensures told { (m : StoreModel) → Self.told self.old ≡ Some m → Asks (λ r. r ≡ xorb_raw_bytes m hash.now byte_range) result }
+        ensures refusals { RefusedBy (OfXorbBytes hash.now) result }
+        ensures stays { Self.told self.new ≡ Self.told self.old }
+        ensures cause { FailsOnlyByFault (Self.faults self.old) (Self.faults self.new) result };
+}
