@@ -1,3 +1,4 @@
 pub mod FieldLaws
 pub mod Times
 pub mod Maps
+pub mod Pairs

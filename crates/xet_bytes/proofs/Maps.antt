@@ -2,12 +2,18 @@
 use denote.Ref.{Bor}
 use Rattle.std.specs.Prelude.{IfSome}
 use Rattle.std.specs.Option.{option_copied}
-use Rattle.std.proofs.Common.{◌≡◌, cond, List, [], ◌∷◌, Option, Some, None, Ordering, true, false, subst, refl, sym, ap, ◌∙◌}
+use Rattle.std.proofs.Common.{◌≡◌, cond, ◌&&◌, Bool, List, [], ◌∷◌, map, Option, Some, None, Ordering, true, false, subst, refl, sym, ap, ◌∙◌}
+use Rattle.std.specs.Prelude.{T}
+use Rattle.std.specs.List.{AllByRecursion}
+use Rattle.std.specs.List.Sorted.{IsStrictlySortedBy}
+use Rattle.std.specs.Ordering.{is_lt}
+use Rattle.std.specs.declared.cmp.Ordering.TheVariants.{Less}
 use Rattle.std.specs.Cmp.{IsTotalOrder, eq_by_cmp_equiv}
 use Rattle.std.specs.Cmp.Lexicographic.{nat_list_cmp_total}
 use Rattle.std.specs.Map.{lookup}
 use Rattle.std.specs.BTreeMap.{is_at}
-use Rattle.std.specs.FinMap.{FinMap, IsAntisymmetric, find, get, insert, remove, from_entries, get-from_entries, get-insert, get-remove, same_map, slice_cmp-IsAntisymmetric, nat_cmp-IsAntisymmetric}
+use Rattle.std.specs.FinMap.{FinMap, IsAntisymmetric, entries, is_sorted, find, get, insert, remove, from_entries, from_sorted, entries-from_sorted, get-from_sorted, get-from_entries, get-insert, get-remove, same_map, slice_cmp-IsAntisymmetric, nat_cmp-IsAntisymmetric}
+use Rattle.std.specs.FinMap.Entries.{below_all}
 use Rattle.xet_types.specs.Names.{hash_cmp}
 
 abbrev pub found : {A : Type 0} → A → Option A
@@ -55,3 +61,25 @@ hash_total = nat_list_cmp_total
 pub each_found : {X : Type 0} (P : X → Type 0) (r : Option (Bor X)) → ((x : X) → option_copied r ≡ Some x → P x) → IfSome r (λ x. P x.now)
 each_found P None each = tt
 each_found P (Some x) each = each x.now refl
+
+-- ---- entries that stand in order
+
+both : (a b : Bool) → T a → T b → T (a && b)
+both true b p q = q
+both false b p q = p
+
+below_all_keys : {K X : Type 0} (R : K → K → Ordering) (k : K) (es : List (K × X)) → AllByRecursion (λ q. R k q ≡ Less) (map (λ e. e.0) es) → T (below_all R k es)
+below_all_keys R k [] h = tt
+below_all_keys R k (e ∷ es) h = both (is_lt (R k e.0)) (below_all R k es) (subst (λ r. T (is_lt r)) (sym h.0) tt) (below_all_keys R k es h.1)
+
+sorted_from_rising : {K X : Type 0} (R : K → K → Ordering) (es : List (K × X)) → IsStrictlySortedBy R (map (λ e. e.0) es) → T (is_sorted R es)
+unfolding IsStrictlySortedBy
+sorted_from_rising R [] h = tt
+sorted_from_rising R (e ∷ es) h = both (below_all R e.0 es) (is_sorted R es) (below_all_keys R e.0 es h.0) (sorted_from_rising R es h.1)
+
+-- the map of entries in order has these entries
+pub entries_are : {K X : Type 0} (R : K → K → Ordering) → IsTotalOrder R → IsAntisymmetric R → (es : List (K × X)) → IsStrictlySortedBy R (map (λ e. e.0) es) → entries (from_entries {R = R} es) ≡ es
+entries_are R whole exact es h =
+    let sorted = sorted_from_rising R es h in
+    ap entries (same_map whole exact (from_entries {R = R} es) (from_sorted {R = R} es) (λ q. get-from_entries whole es q ∙ sym (get-from_sorted R es q sorted)))
+    ∙ entries-from_sorted R es sorted

@@ -110,6 +110,14 @@ impl<V: Drop> ByHash<V> {
         self.map.contains_key(key)
     }
 
+    /// The hashes in order.
+    pub fn keys(&self, alloc: Global) -> Result<Vec<MerkleHash>, OutOfMemory>
+        ensures { IfOk result (λ keys. keys.items ≡ finmap.keys self.now) }
+    {
+        let keys = self.map.keys().copied().collect(alloc)?;
+        Ok(keys)
+    }
+
     /// Puts a value at the hash, and answers the one that was there. Only a new hash takes memory; where there is none,
     /// the map stays as it was.
     pub fn insert(&mut self, key: MerkleHash, value: V) -> Result<Option<V>, OutOfMemory>

@@ -1,0 +1,23 @@
+-- Values by hash and number.
+use Rattle.std.specs.Prelude.{◌≡◌, ℕ, ◌<◌, ◌≤◌, ◌+◌, List, Option, Some, None}
+use Rattle.std.specs.Ordering.{nat_cmp, ordering_then}
+use Rattle.std.specs.declared.cmp.Ordering.{Ordering}
+use Rattle.std.specs.FinMap.{FinMap, get}
+use Rattle.xet_types.specs.Names.{hash_cmp}
+
+-- a hash and a number
+abbrev pub Pair : Type 0
+Pair = List ℕ × ℕ
+
+-- in order of hash, then number
+abbrev pub pair_cmp : Pair → Pair → Ordering
+pair_cmp a b = ordering_then (hash_cmp a.0 b.0) (nat_cmp a.1 b.1)
+
+-- the hash has no value at the numbers from one up to another, which is excluded
+abbrev pub NoneBetween : {V : Type 0} → FinMap pair_cmp V → List ℕ → ℕ → ℕ → Type 0
+NoneBetween m hash start end = (n : ℕ) → start ≤ n → n < end → get m (hash, n) ≡ None
+
+-- the greatest number below the end at which the hash has a value, and that value; none where there is no such number
+abbrev pub IsLastBelow : {V : Type 0} → FinMap pair_cmp V → List ℕ → ℕ → Option (ℕ × V) → Type 0
+IsLastBelow m hash end None = NoneBetween m hash 0 end
+IsLastBelow m hash end (Some p) = (p.0 < end) × (get m (hash, p.0) ≡ Some p.1) × NoneBetween m hash (p.0 + 1) end

@@ -1,0 +1,66 @@
+//! Values by hash and number, which contracts see as finite maps.
+use std::alloc::Global;
+use std::collections::BTreeMap;
+use std::marker::Model;
+use xet_types::{MerkleHash, OutOfMemory};
+
+/// Values by hash and number, ordered by the hash, then by the number.
+#[derive(Drop)]
+pub struct ByHashAndNumber<V> {
+    map: BTreeMap<(MerkleHash, u64), V>,
+}
+
+impl<V> Model for ByHashAndNumber<V> {
+    ghost use Rattle.std.specs.FinMap as finmap;
+    ghost use Rattle.xet_bytes.specs.Pairs.{pair_cmp};
+    ghost use Rattle.std.specs.Coded.{coded×, coded_list, coded_ℕ};
+
+    ghost Value = { finmap.FinMap pair_cmp V };
+
+    ghost coded = { finmap.code (coded× (coded_list coded_ℕ) coded_ℕ) V.code };
+
+    ghost view = { λ t. finmap.from_entries {R = pair_cmp} t.map.entries };
+}
+
+impl<V: Drop> ByHashAndNumber<V> {
+    ghost use Rattle.std.specs.Prelude.{◌≡◌, None, IfOk, OnOk, OnErr};
+    ghost use Rattle.std.specs.FinMap as finmap;
+
+    /// No values. Takes no memory.
+    pub fn new(alloc: Global) -> ByHashAndNumber<V>
+        ensures { result ≡ finmap.empty }
+    {
+        ByHashAndNumber {
+            map: BTreeMap::new(alloc),
+        }
+    }
+
+    /// Puts a value at the hash and the number, in place of one that was there. Where there is no memory, the map stays as
+    /// it was.
+    pub fn insert(&mut self, hash: MerkleHash, number: u64, value: V) -> Result<(), OutOfMemory>
+        ensures ok { OnOk result (self.new ≡ finmap.insert self.old (hash, number) value) }
+        ensures err { OnErr result (self.new ≡ self.old) }
+    {
+        let _old = self.map.insert((hash, number), value)?;
+        Ok(())
+    }
+
+    /// Takes the value at the hash and the number out, where there is one.
+    pub fn remove(&mut self, hash: &MerkleHash, number: u64)
+        ensures { self.new ≡ finmap.remove self.old (hash.now, number) }
+    {
+        self.map.remove(&(*hash, number));
+    }
+}
+
+impl<V: Copy + Drop> ByHashAndNumber<V> {
+    ghost use Rattle.xet_bytes.specs.Pairs.{IsLastBelow};
+
+    /// The greatest number below the end at which the hash has a value, and that value.
+    pub fn last_below(&self, hash: &MerkleHash, end: u64) -> Option<(u64, V)>
+        ensures { IsLastBelow self.now hash.now end result }
+    {
+        let (key, value) = self.map.range((*hash, 0)..(*hash, end)).next_back()?;
+        Some((key.1, *value))
+    }
+}
