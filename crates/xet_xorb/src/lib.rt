@@ -13,7 +13,7 @@ pub use object::{XorbObject, XorbObjectInfoV1};
 pub use read::{ReadXorb, read_xorb};
 pub use segment::append_chunk_segment;
 pub use serialized::SerializedXorbObject;
-pub use write::write_xorb;
+pub use write::{with_footer, write_xorb};
 
 #[cfg(test)]
 mod tests;

@@ -79,6 +79,22 @@ impl XorbObject {
         })
     }
 
+    /// Another object of the same.
+    pub fn clone(&self, alloc: Global) -> Result<XorbObject, OutOfMemory>
+        ensures { IfOk result (λ object. object ≡ self.now) }
+    {
+        Ok(XorbObject {
+            info: XorbObjectInfoV1 {
+                xorb_hash: self.info.xorb_hash,
+                num_chunks: self.info.num_chunks,
+                chunk_hashes: Vec::from_slice(alloc, &self.info.chunk_hashes)?,
+                chunk_boundary_offsets: Vec::from_slice(alloc, &self.info.chunk_boundary_offsets)?,
+                unpacked_chunk_offsets: Vec::from_slice(alloc, &self.info.unpacked_chunk_offsets)?,
+            },
+            info_length: self.info_length,
+        })
+    }
+
     /// The name of the xorb: the hash of its chunks' hashes.
     pub fn xorb_hash(&self) -> MerkleHash
         ensures { result ≡ name_of_hashes self.now.hashes }

@@ -110,6 +110,16 @@ fn put_footer(out: &mut Vec<u8>, object: &XorbObject) -> Result<(), OutOfMemory>
     Ok(())
 }
 
+/// A xorb's bytes without its footer, and the footer of its object behind them.
+pub fn with_footer(alloc: Global, content: &[u8], object: &XorbObject) -> Result<Bytes, OutOfMemory>
+    ensures { IfOk result (λ text. text ≡ content.now ++ (footer_bytes object.now ++ le32 (44 + 40 * length object.now.lengths))) }
+{
+    let mut out = Vec::with_capacity(alloc, object.serialized_length() as usize)?;
+    out.extend_from_slice(content)?;
+    put_footer(&mut out, object)?;
+    Ok(Bytes::from_vec(out)?)
+}
+
 /// Writes a xorb with its footer: its one text.
 ///
 /// `FormatError(Xorb)` exactly where the list isn't well formed: it has no chunk, a chunk is empty or longer than
