@@ -1,2 +1,3 @@
 pub mod ShardLaws
 pub mod CanonicalLaws
+pub mod EligibleLaws

@@ -3,7 +3,6 @@ use Rattle.std.specs.Prelude.{ℕ, Bool, ◌%◌, ◌==◌, not, List, [], ◌�
 use Rattle.std.specs.List.{flat_map}
 use Rattle.std.specs.Int.{w64, from_le_bytes}
 use Rattle.xet_types.specs.Names.{same_hash}
-use Rattle.xet_shard.specs.declared.listing.ChunkListing.{ChunkListing}
 use Rattle.xet_shard.specs.Values.{ListedXorb}
 use Rattle.xet_shard.specs.Listings.{ShardModel}
 

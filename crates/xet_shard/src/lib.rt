@@ -2,6 +2,7 @@
 #![tactic(auto)]
 
 pub mod canonical_form;
+pub mod eligible;
 pub mod listing;
 pub mod read;
 #[cfg(test)]
@@ -9,6 +10,7 @@ mod tests;
 pub mod write;
 
 pub use canonical_form::{canonical, canonical_bytes, shard_hash};
+pub use eligible::{eligible_among_xorbs, eligible_chunks};
 pub use listing::{ChunkListing, FileListing, Segment, Shard, XorbListing};
 pub use read::read_shard;
 pub use write::write_shard;
