@@ -1,2 +1,11 @@
 pub mod PastEnd
 pub mod Planning
+pub mod Listings
+pub mod Indexed
+pub mod Chunks
+pub mod Entries
+pub mod StoreLaws
+pub mod Links
+pub mod Told
+pub mod Search
+pub mod Data

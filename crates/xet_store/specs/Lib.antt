@@ -7,3 +7,6 @@ pub mod Told
 pub mod Refusals
 pub mod Questions
 pub mod Responses
+pub mod Kept
+pub mod Indexed
+pub mod Entries

@@ -4,9 +4,14 @@
 pub mod client;
 pub mod deletion;
 pub mod direct_access;
+pub mod memory;
 pub mod store;
 
 pub use client::Client;
 pub use deletion::DeletionControlableClient;
 pub use direct_access::DirectAccessClient;
+pub use memory::MemoryClient;
 pub use store::Store;
+
+#[cfg(test)]
+mod tests;

@@ -1,0 +1,442 @@
+//! The store in memory.
+ghost use Rattle.std.specs.Prelude.{◌≡◌, ◌<◌, ◌≤◌, IfSome, IsSome, IfErr, OnOk, OnErr, Ok, Err, Some, None, ⊤};
+ghost use Rattle.std.specs.Option.{option_map, option_copied};
+ghost use Rattle.std.specs.FinMap.{get};
+ghost use Rattle.xet_types.specs.Faults.{refusal_of};
+ghost use Rattle.xet_types.specs.declared.error.Refusal.TheVariants.{Other};
+ghost use Rattle.xet_store.specs.StoreModel.{accepted, shown, listing, live, shard_named};
+ghost use Rattle.xet_store.specs.Answered.{Answered};
+ghost use Rattle.xet_store.specs.Commands.{UploadsXorb, UploadsShard, delete_xorb, delete_shard, hide_file, set_expiration};
+ghost use Rattle.xet_shard.specs.Values.{size_of};
+ghost use Rattle.xet_plan.specs.Places.{interval};
+ghost use Rattle.xet_store.specs.Questions.{asked, data_at};
+ghost use Rattle.xet_store.specs.Kept.{IsListed, range_interval};
+ghost use Rattle.xet_store.specs.Plans.{PlansFile};
+ghost use Rattle.xet_store.specs.Cuts.{cut_of};
+
+mod data;
+mod entries;
+mod first;
+mod footers;
+mod shards;
+mod xorb;
+
+use crate::client::Client;
+use crate::deletion::DeletionControlableClient;
+use crate::direct_access::DirectAccessClient;
+use crate::store::Store;
+use bytes::Bytes;
+use data::assemble;
+use entries::{fill, reserve};
+use first::first;
+use footers::StoredFooters;
+use shards::{KeptShard, ShardTable};
+use std::alloc::Global;
+use std::marker::Model;
+use std::sync::Arc;
+use xet_bytes::ByHash;
+use xet_plan::{Footers, Plan, compute_reconstruction_ranges};
+use xet_shard::{FileListing, eligible_among_xorbs, read_shard};
+use xet_types::{
+    ChunkRange, ClientError, FileRange, Items, MerkleHash, OutOfMemory, QueryReconstructionResponse,
+};
+use xet_xorb::{SerializedXorbObject, XorbObject, read_xorb};
+use xorb::StoredXorb;
+
+/// A store in memory, which contracts see as its model.
+#[derive(Drop)]
+pub struct MemoryClient {
+    xorbs: ByHash<StoredXorb>,
+    shards: ShardTable,
+    hidden: ByHash<()>,
+    /// For chunks the name of a shard. A place without a name is no entry: an acceptance for which memory was wanting left it.
+    dedup: ByHash<Option<MerkleHash>>,
+    /// In milliseconds.
+    expiration: u64,
+}
+
+impl Model for MemoryClient {
+    ghost use Rattle.xet_store.specs.StoreModel.{StoreModel, IsSound, store_code};
+    ghost use Rattle.xet_store.specs.Entries.{filled};
+
+    ghost Value = { StoreModel };
+
+    ghost coded = { store_code };
+
+    ghost view = { λ s. record { xorbs = s.xorbs; shards = s.shards; hidden = s.hidden; dedup = filled s.dedup; expiration = s.expiration } };
+
+    ghost invariant = { λ s. IsSound (record { xorbs = s.xorbs; shards = s.shards; hidden = s.hidden; dedup = filled s.dedup; expiration = s.expiration }) };
+}
+
+/// Shows the files again.
+fn show(hidden: &mut ByHash<()>, files: &[FileListing])
+    ensures { hidden.new ≡ shown hidden.old files.now }
+{
+    for file in files {
+        hidden.remove(&file.file_hash);
+    }
+}
+
+impl MemoryClient {
+    ghost use Rattle.xet_store.specs.StoreModel.{IsSound, empty};
+
+    /// A store without xorbs and shards, whose links don't expire. Takes no memory.
+    pub fn new(alloc: Global) -> MemoryClient
+        ensures { result ≡ empty }
+    {
+        MemoryClient {
+            xorbs: ByHash::new(alloc),
+            shards: ShardTable::new(alloc),
+            hidden: ByHash::new(alloc),
+            dedup: ByHash::new(alloc),
+            expiration: u64::MAX,
+        }
+    }
+
+    /// Stores a xorb under a hash, and answers its length in bytes with its footer.
+    ///
+    /// 0 where the hash is stored already; the bytes then aren't read. `FormatError(Xorb)` where they aren't a xorb's,
+    /// then `Other` where the chunks' hash isn't this one. A refused upload changes nothing.
+    pub fn upload_xorb(
+        &mut self,
+        alloc: Global,
+        hash: &MerkleHash,
+        content: &Bytes,
+    ) -> Result<u64, ClientError>
+        ensures { Answered result (λ r. UploadsXorb self.old hash.now content.now r self.new) (self.new ≡ self.old) }
+    {
+        if self.xorbs.contains(hash) {
+            return Ok(0);
+        }
+        let read = read_xorb(alloc, content)?;
+        if read.object.xorb_hash() != *hash {
+            return Err(other(alloc, "the chunks don't hash to the name"));
+        }
+        let length = read.object.serialized_length();
+        let xorb = StoredXorb::new(alloc, content, read)?;
+        self.xorbs.insert(*hash, xorb)?;
+        Ok(u64::from(length))
+    }
+
+    /// Accepts a shard in canonical form: it goes last, in place of one of equal name, the entries of its eligible chunks name
+    /// it, and its files are hidden no more.
+    ///
+    /// `FormatError(Shard)` where the bytes aren't a shard's. A refused upload changes nothing.
+    pub fn upload_shard(&mut self, alloc: Global, content: &Bytes) -> Result<bool, ClientError>
+        ensures { Answered result (λ r. UploadsShard self.old content.now r self.new) (self.new ≡ self.old) }
+    {
+        let shard = read_shard(alloc, content.as_slice())?;
+        let kept = KeptShard::canonical(alloc, &shard)?;
+        self.accept(alloc, kept)?;
+        Ok(true)
+    }
+
+    /// Accepts a shard in canonical form. Where there is no memory, all stays as it was.
+    fn accept(&mut self, alloc: Global, shard: KeptShard) -> Result<(), OutOfMemory>
+        ensures ok { OnOk result (self.new ≡ accepted self.old shard) }
+        ensures err { OnErr result (self.new ≡ self.old) }
+    {
+        let name = *shard.name();
+        let chunks = eligible_among_xorbs(alloc, shard.shard().xorbs())?;
+        reserve(&mut self.dedup, &chunks)?;
+        self.shards.accept(shard)?;
+        fill(&mut self.dedup, &chunks, &name);
+        if let Some(shard) = self.shards.get(&name) {
+            show(&mut self.hidden, shard.files());
+        }
+        Ok(())
+    }
+
+    /// The last shard that lists a live file.
+    fn live(&self, file: &MerkleHash) -> Option<&KeptShard>
+        ensures { option_copied result ≡ live self.now file.now }
+    {
+        if self.hidden.contains(file) {
+            return None;
+        }
+        self.shards.last(file)
+    }
+
+    /// The listing of a live file.
+    fn listing(&self, file: &MerkleHash) -> Option<&FileListing>
+        ensures { IsListed file.now (listing self.now file.now) result }
+    {
+        self.live(file)?.listing(file)
+    }
+
+    /// The bytes of a file from a start up to an end, which is above it and within the file.
+    fn bytes_of(
+        &self,
+        alloc: Global,
+        listing: &FileListing,
+        start: u64,
+        end: u64,
+    ) -> Result<Bytes, ClientError>
+        requires some { start < end }
+        requires within { end ≤ size_of listing.now.segments }
+        ensures { Answered result (λ r. r ≡ data_at self.now listing.now.segments (interval start end)) ⊤ }
+    {
+        let range = Some(FileRange::new(start, end));
+        let mut footers = StoredFooters::new(&self.xorbs);
+        match compute_reconstruction_ranges(alloc, listing, range, &mut footers)? {
+            Some(plan) => {
+                let offset = plan.offset_into_first_range;
+                Ok(assemble(alloc, &self.xorbs, &plan.terms, offset, end - start)?)
+            }
+            None => unreachable!(),
+        }
+    }
+
+    /// The plan of a file, or of a range of its bytes. None where it isn't live or the range begins at or past its end;
+    /// `InvalidRange` where the range's end isn't above its start; else the first fault of a segment that the range meets.
+    pub fn plan(
+        &self,
+        alloc: Global,
+        file: &MerkleHash,
+        range: Option<FileRange>,
+    ) -> Result<Option<Plan>, ClientError>
+        ensures answer { Answered result (λ r. PlansFile self.now file.now range r) ⊤ }
+        ensures sound { IsSound self.now }
+    {
+        let mut footers = StoredFooters::new(&self.xorbs);
+        match self.listing(file) {
+            Some(listing) => compute_reconstruction_ranges(alloc, listing, range, &mut footers),
+            None => Ok(None),
+        }
+    }
+
+    /// Chunks of a xorb, which aren't copied. `XORBNotFound` where it isn't stored, `InvalidRange` where the range is
+    /// empty, reversed or ends past its last chunk.
+    pub fn cut(
+        &self,
+        alloc: Global,
+        hash: &MerkleHash,
+        chunks: ChunkRange,
+    ) -> Result<Items<Bytes>, ClientError>
+        ensures answer { Answered result (λ r. r ≡ cut_of self.now hash.now chunks.start chunks.end) ⊤ }
+        ensures sound { IsSound self.now }
+    {
+        let Some(xorb) = self.xorbs.get(hash) else {
+            return Err(ClientError::XORBNotFound(*hash));
+        };
+        xorb.cut(alloc, chunks)
+    }
+}
+
+/// A refusal for another cause, as its text says.
+fn other(alloc: Global, text: &str) -> ClientError
+    ensures { IfSome (refusal_of result) (λ why. why ≡ Other) }
+{
+    match String::from_str(alloc, text) {
+        Ok(text) => ClientError::Other(text),
+        Err(_) => ClientError::OutOfMemory,
+    }
+}
+
+/// The bytes that a range asks of so many. None where it begins at or past their end, or ends below its start.
+fn asked(size: u64, range: Option<FileRange>) -> Option<FileRange>
+    ensures { option_map range_interval result ≡ asked size range }
+{
+    let Some(range) = range else {
+        return Some(FileRange::new(0, size));
+    };
+    if range.start >= size || range.end < range.start {
+        return None;
+    }
+    Some(FileRange::new(range.start, range.end.min(size)))
+}
+
+impl Client for MemoryClient {
+    ghost use Rattle.std.specs.Prelude.{Some};
+
+    ghost told = { λ s. Some s };
+
+    ghost faults = { λ _. 0 };
+
+    fn get_file_reconstruction_info(
+        &mut self,
+        alloc: Global,
+        file_hash: &MerkleHash,
+    ) -> Result<Option<(FileListing, Option<MerkleHash>)>, ClientError> {
+        let Some(shard) = self.live(file_hash) else {
+            return Ok(None);
+        };
+        let Some(listing) = shard.listing(file_hash) else {
+            return Ok(None);
+        };
+        let listing = listing.clone(alloc)?;
+        Ok(Some((listing, Some(*shard.name()))))
+    }
+
+    fn upload_shard(&mut self, alloc: Global, shard_data: Bytes) -> Result<bool, ClientError> {
+        MemoryClient::upload_shard(self, alloc, &shard_data)
+    }
+
+    fn upload_xorb(
+        &mut self,
+        alloc: Global,
+        prefix: &str,
+        serialized_xorb_object: SerializedXorbObject,
+    ) -> Result<u64, ClientError> {
+        let hash = serialized_xorb_object.hash;
+        MemoryClient::upload_xorb(self, alloc, &hash, &serialized_xorb_object.serialized_data)
+    }
+}
+
+impl DirectAccessClient for MemoryClient {
+    /// Takes no memory.
+    fn set_fetch_term_url_expiration(&mut self, millis: u64) -> Result<(), ClientError>
+        ensures done { result ≡ Ok tt }
+        ensures after { self.new ≡ (set_expiration self.old millis).1 }
+    {
+        self.expiration = millis;
+        Ok(())
+    }
+
+    fn get_reconstruction_v1(
+        &mut self,
+        alloc: Global,
+        file_id: &MerkleHash,
+        bytes_range: Option<FileRange>,
+        at: u64,
+    ) -> Result<Option<QueryReconstructionResponse>, ClientError> {
+        let Some(plan) = self.plan(alloc, file_id, bytes_range)? else {
+            return Ok(None);
+        };
+        let response = first(alloc, plan, at)?;
+        Ok(Some(response))
+    }
+
+    fn list_xorbs(&mut self, alloc: Global) -> Result<Vec<MerkleHash>, ClientError> {
+        let hashes = self.xorbs.keys(alloc)?;
+        Ok(hashes)
+    }
+
+    /// Takes no memory.
+    fn delete_xorb(&mut self, alloc: Global, hash: &MerkleHash) -> Result<(), ClientError>
+        ensures done { result ≡ Ok tt }
+        ensures after { self.new ≡ (delete_xorb self.old hash.now).1 }
+    {
+        self.xorbs.remove(hash);
+        Ok(())
+    }
+
+    fn xorb_footer(&mut self, alloc: Global, hash: &MerkleHash) -> Result<XorbObject, ClientError> {
+        let Some(xorb) = self.xorbs.get(hash) else {
+            return Err(ClientError::XORBNotFound(*hash));
+        };
+        let object: &XorbObject = xorb.object();
+        Ok(object.clone(alloc)?)
+    }
+
+    fn xorb_raw_length(&mut self, alloc: Global, hash: &MerkleHash) -> Result<u64, ClientError> {
+        match self.xorbs.get(hash) {
+            Some(xorb) => Ok(u64::from(xorb.object().serialized_length())),
+            None => Err(ClientError::XORBNotFound(*hash)),
+        }
+    }
+
+    fn xorb_exists(&mut self, alloc: Global, hash: &MerkleHash) -> Result<bool, ClientError> {
+        Ok(self.xorbs.contains(hash))
+    }
+
+    fn get_file_size(&mut self, alloc: Global, hash: &MerkleHash) -> Result<u64, ClientError> {
+        match self.listing(hash) {
+            Some(listing) => Ok(listing.file_size()),
+            None => Err(ClientError::FileNotFound(*hash)),
+        }
+    }
+
+    fn get_file_data(
+        &mut self,
+        alloc: Global,
+        hash: &MerkleHash,
+        byte_range: Option<FileRange>,
+    ) -> Result<Bytes, ClientError> {
+        let Some(listing) = self.listing(hash) else {
+            return Err(ClientError::FileNotFound(*hash));
+        };
+        let Some(range) = asked(listing.file_size(), byte_range) else {
+            return Err(ClientError::InvalidRange);
+        };
+        if range.start == range.end {
+            return Ok(Bytes::new());
+        }
+        self.bytes_of(alloc, listing, range.start, range.end)
+    }
+
+    fn get_xorb_raw_bytes(
+        &mut self,
+        alloc: Global,
+        hash: &MerkleHash,
+        byte_range: Option<FileRange>,
+    ) -> Result<Bytes, ClientError> {
+        let Some(xorb) = self.xorbs.get(hash) else {
+            return Err(ClientError::XORBNotFound(*hash));
+        };
+        let text = xorb.text();
+        let Some(range) = asked(text.len() as u64, byte_range) else {
+            return Err(ClientError::InvalidRange);
+        };
+        Ok(text.slice(range.start as usize..range.end as usize)?)
+    }
+}
+
+impl DeletionControlableClient for MemoryClient {
+    /// Of a shard that is stored it takes no memory.
+    fn delete_shard_entry(&mut self, alloc: Global, hash: &MerkleHash) -> Result<(), ClientError>
+        ensures done { IsSome (shard_named self.old.shards hash.now) → result ≡ Ok tt }
+        ensures refused { shard_named self.old.shards hash.now ≡ None → Answered result (λ r. r ≡ Err Other) ⊤ }
+        ensures after { self.new ≡ (delete_shard self.old hash.now).1 }
+    {
+        if self.shards.remove(hash) {
+            Ok(())
+        } else {
+            Err(other(alloc, "no shard of this name is stored"))
+        }
+    }
+
+    /// Of a file that is hidden already it takes no memory.
+    fn delete_file_entry(
+        &mut self,
+        alloc: Global,
+        file_hash: &MerkleHash,
+    ) -> Result<(), ClientError>
+        ensures ok { OnOk result (self.new ≡ (hide_file self.old file_hash.now).1) }
+        ensures err { OnErr result (self.new ≡ self.old) }
+        ensures memory { IfErr result (λ e. e ≡ ClientError.OutOfMemory) }
+        ensures again { get self.old.hidden file_hash.now ≡ Some tt → result ≡ Ok tt }
+    {
+        self.hidden.insert(*file_hash, ())?;
+        Ok(())
+    }
+}
+
+impl Footers for MemoryClient {
+    ghost use Rattle.std.specs.Prelude.{Some};
+    ghost use Rattle.xet_store.specs.StoreModel.{known_of};
+
+    ghost told = { λ s. Some (known_of s) };
+
+    ghost faults = { λ _. 0 };
+
+    fn footer(&mut self, alloc: Global, hash: &MerkleHash) -> Result<Arc<XorbObject>, ClientError> {
+        let mut footers = StoredFooters::new(&self.xorbs);
+        footers.footer(alloc, hash)
+    }
+}
+
+impl Store for MemoryClient {
+    ghost use Rattle.std.specs.Prelude.{refl};
+
+    fn fetch_term_url_expiration(&mut self) -> u64 {
+        self.expiration
+    }
+
+    ghost footers = { λ _. refl };
+
+    ghost counts = { λ _. refl };
+}
+
+#[cfg(test)]
+mod tests;

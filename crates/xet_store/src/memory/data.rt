@@ -1,0 +1,54 @@
+//! The bytes of a planned part of a file.
+ghost use Rattle.std.specs.Prelude.{◌≡◌, ◌++◌, IfOk, OnOk, take, drop};
+ghost use Rattle.std.specs.List.{flat_map};
+ghost use Rattle.std.specs.FinMap.{get};
+ghost use Rattle.xet_plan.specs.FileBytes.{term_bytes, assembled};
+
+use super::xorb::StoredXorb;
+use bytes::Bytes;
+use std::alloc::Global;
+use xet_bytes::ByHash;
+use xet_types::{OutOfMemory, XorbReconstructionTerm};
+
+/// How many bytes the terms have together.
+fn length_of(terms: &[XorbReconstructionTerm]) -> u64 {
+    let mut length: u64 = 0;
+    for term in terms {
+        length = length.saturating_add(u64::from(term.unpacked_length));
+    }
+    length
+}
+
+/// The chunks of the terms, joined.
+fn joined(
+    alloc: Global,
+    xorbs: &ByHash<StoredXorb>,
+    terms: &[XorbReconstructionTerm],
+) -> Result<Vec<u8>, OutOfMemory>
+    ensures { IfOk result (λ bytes. bytes.items ≡ flat_map (term_bytes (get xorbs.now)) terms.now) }
+{
+    let mut bytes = Vec::with_capacity(alloc, length_of(terms) as usize)?;
+    for term in terms {
+        if let Some(xorb) = xorbs.get(&term.hash) {
+            xorb.append(&mut bytes, term.range)?;
+        }
+    }
+    Ok(bytes)
+}
+
+/// The chunks of the terms, joined once, less an offset and cut to a length.
+pub fn assemble(
+    alloc: Global,
+    xorbs: &ByHash<StoredXorb>,
+    terms: &[XorbReconstructionTerm],
+    offset: u64,
+    length: u64,
+) -> Result<Bytes, OutOfMemory>
+    ensures { IfOk result (λ bytes. bytes ≡ assembled (get xorbs.now) terms.now offset length) }
+{
+    let joined = Bytes::from_vec(joined(alloc, xorbs, terms)?)?;
+    let all = joined.len() as u64;
+    let start = offset.min(all);
+    let end = start.saturating_add(length).min(all);
+    Ok(joined.slice(start as usize..end as usize)?)
+}

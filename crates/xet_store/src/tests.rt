@@ -1,0 +1,418 @@
+//! Every call of a store, on its happy path and in each refusal: rows that run through any store. The names are SHA-256 by another
+//! program, over bytes that it made itself.
+use crate::memory::MemoryClient;
+use crate::store::Store;
+use bytes::Bytes;
+use std::alloc::Global;
+use std::process::Abort;
+use std::test::Fail;
+use xet_shard::{FileListing, Segment, Shard, write_shard};
+use xet_types::{ClientError, FileRange, FormatFault, MerkleHash, OutOfMemory};
+use xet_xorb::SerializedXorbObject;
+
+/// The chunks `abc` and `defgh`, each behind its header.
+const XORB: &[u8] = b"\0\x03\0\0\0\x03\0\0abc\0\x05\0\0\0\x05\0\0defgh";
+
+/// The last 20 bytes of the xorb with its footer: where its chunks end, with headers and without, and the footer's length.
+const XORB_END: &[u8] = b"\x0b\0\0\0\x18\0\0\0\x03\0\0\0\x08\0\0\0\x7c\0\0\0";
+
+/// A chunk that ends early.
+const TORN: &[u8] = b"\0\x03\0\0\0\x03\0\0ab";
+
+/// The hash of the two chunks' hashes.
+const NAME: &[u8; 32] =
+    b"\x91\x1a\xd1\x05\xed\x39\x4f\xd1\x0f\x7b\x88\xf6\x73\xc9\x75\xa4\x60\xfc\xe4\xb4\x44\x6b\x75\x76\x1b\xfd\x52\xbb\xbc\x0a\x3a\x75";
+
+/// The name of the shard that lists `FILE` as the first chunk.
+const FIRST: &[u8; 32] =
+    b"\x9e\x8f\x8c\xf0\xc7\x3c\x3c\xc1\xb3\x28\xf6\xcb\x7d\x69\x03\x0c\x62\x42\xa7\x49\xd0\xde\x56\xfa\x59\xfc\x5b\xd1\x19\x75\xf8\x72";
+
+/// The name of the shard that lists `FILE` as the second chunk.
+const SECOND: &[u8; 32] =
+    b"\x3a\x15\x7f\x15\x6d\x49\x10\xb7\xca\x36\x73\xc3\x92\x7d\x5f\x02\xa7\x55\x04\xb5\x92\x6c\xe9\x65\x0e\x7d\xe9\xae\x9f\x2a\x3f\xa4";
+
+const FILE: &[u8; 32] = &[0xaa; 32];
+
+const EMPTY: &[u8; 32] = &[0xbb; 32];
+
+const TORN_FILE: &[u8; 32] = &[0xcc; 32];
+
+const OTHER: &[u8; 32] = &[0x55; 32];
+
+/// A call of a store.
+#[derive(Clone, Copy)]
+enum Call {
+    /// An upload of bytes under a hash.
+    Xorb(&'static [u8; 32], &'static [u8]),
+    /// An upload of a shard that lists a file as chunks of the xorb of a listed length.
+    Shard(&'static [u8; 32], u32, u32, u32),
+    /// An upload of a shard that lists a file without segments.
+    EmptyFile(&'static [u8; 32]),
+    /// An upload of bytes that aren't a shard's.
+    TornShard,
+    Info(&'static [u8; 32]),
+    Size(&'static [u8; 32]),
+    Data(&'static [u8; 32], Option<(u64, u64)>),
+    Plan(&'static [u8; 32], Option<(u64, u64)>),
+    Exists(&'static [u8; 32]),
+    Xorbs,
+    Chunks(&'static [u8; 32]),
+    RawLength(&'static [u8; 32]),
+    RawBytes(&'static [u8; 32], Option<(u64, u64)>),
+    DeleteXorb(&'static [u8; 32]),
+    DeleteShard(&'static [u8; 32]),
+    Hide(&'static [u8; 32]),
+    SetExpiration(u64),
+    Expiration,
+}
+
+/// What a call answered.
+#[derive(Drop)]
+enum Got {
+    Done,
+    Nothing,
+    Number(u64),
+    Text(Bytes),
+}
+
+/// What a call is to answer.
+#[derive(Clone, Copy)]
+enum Want {
+    Done,
+    Nothing,
+    Number(u64),
+    Text(&'static [u8]),
+    NoFile,
+    NoXorb,
+    BadXorb,
+    BadShard,
+    BadSegment,
+    BadRange,
+    Other,
+}
+
+fn range_of(range: Option<(u64, u64)>) -> Option<FileRange> {
+    match range {
+        Some((start, end)) => Some(FileRange::new(start, end)),
+        None => None,
+    }
+}
+
+/// The text of a shard that lists one file.
+fn shard_of(alloc: Global, file: &[u8; 32], segments: Vec<Segment>) -> Result<Bytes, OutOfMemory> {
+    let file = FileListing {
+        file_hash: MerkleHash::from_bytes(*file),
+        segments,
+    };
+    let shard = Shard {
+        expiry: 7,
+        files: Vec::from_array(alloc, [file])?,
+        xorbs: Vec::new(alloc),
+    };
+    write_shard(alloc, &shard)
+}
+
+/// The only segment of a file, chunks of the xorb.
+fn segment(start: u32, end: u32, length: u32) -> Segment {
+    Segment {
+        xorb_hash: MerkleHash::from_bytes(*NAME),
+        xorb_flags: 0,
+        chunk_index_start: start,
+        chunk_index_end: end,
+        unpacked_segment_bytes: length,
+    }
+}
+
+fn upload_xorb<K: Store>(
+    store: &mut K,
+    alloc: Global,
+    hash: &[u8; 32],
+    content: &'static [u8],
+) -> Result<Got, ClientError> {
+    let object = SerializedXorbObject {
+        hash: MerkleHash::from_bytes(*hash),
+        serialized_data: Bytes::from_static(content),
+        raw_num_bytes: 0,
+        num_chunks: 0,
+        footer_start: None,
+    };
+    let length = store.upload_xorb(alloc, "default", object)?;
+    Ok(Got::Number(length))
+}
+
+fn upload_shard<K: Store>(
+    store: &mut K,
+    alloc: Global,
+    content: Bytes,
+) -> Result<Got, ClientError> {
+    let taken = store.upload_shard(alloc, content)?;
+    Ok(Got::Number(u64::from(taken)))
+}
+
+fn list<K: Store>(
+    store: &mut K,
+    alloc: Global,
+    file: &[u8; 32],
+    listed: Option<Segment>,
+) -> Result<Got, ClientError> {
+    let mut segments = Vec::new(alloc);
+    if let Some(segment) = listed {
+        segments.push(segment)?;
+    }
+    let content = shard_of(alloc, file, segments)?;
+    upload_shard(store, alloc, content)
+}
+
+/// The name of the shard that lists the file.
+fn info<K: Store>(store: &mut K, alloc: Global, file: &[u8; 32]) -> Result<Got, ClientError> {
+    let file = MerkleHash::from_bytes(*file);
+    match store.get_file_reconstruction_info(alloc, &file)? {
+        Some((listing, Some(name))) => {
+            let text = Bytes::copy_from_slice(alloc, name.as_slice())?;
+            Ok(Got::Text(text))
+        }
+        Some((listing, None)) => Ok(Got::Done),
+        None => Ok(Got::Nothing),
+    }
+}
+
+fn size<K: Store>(store: &mut K, alloc: Global, file: &[u8; 32]) -> Result<Got, ClientError> {
+    let size = store.get_file_size(alloc, &MerkleHash::from_bytes(*file))?;
+    Ok(Got::Number(size))
+}
+
+fn data<K: Store>(
+    store: &mut K,
+    alloc: Global,
+    file: &[u8; 32],
+    range: Option<FileRange>,
+) -> Result<Got, ClientError> {
+    let bytes = store.get_file_data(alloc, &MerkleHash::from_bytes(*file), range)?;
+    Ok(Got::Text(bytes))
+}
+
+/// The text of the plan's first link, at the moment 7.
+fn plan<K: Store>(
+    store: &mut K,
+    alloc: Global,
+    file: &[u8; 32],
+    range: Option<FileRange>,
+) -> Result<Got, ClientError> {
+    let file = MerkleHash::from_bytes(*file);
+    let Some(plan) = store.get_reconstruction_v1(alloc, &file, range, 7)? else {
+        return Ok(Got::Nothing);
+    };
+    for (hash, links) in plan.fetch_info {
+        for link in links {
+            return Ok(Got::Text(Bytes::from_string(link.url)?));
+        }
+    }
+    Ok(Got::Done)
+}
+
+fn exists<K: Store>(store: &mut K, alloc: Global, hash: &[u8; 32]) -> Result<Got, ClientError> {
+    let there = store.xorb_exists(alloc, &MerkleHash::from_bytes(*hash))?;
+    Ok(Got::Number(u64::from(there)))
+}
+
+/// The first hash that is listed.
+fn xorbs<K: Store>(store: &mut K, alloc: Global) -> Result<Got, ClientError> {
+    let hashes = store.list_xorbs(alloc)?;
+    match hashes.first() {
+        Some(hash) => Ok(Got::Text(Bytes::copy_from_slice(alloc, hash.as_slice())?)),
+        None => Ok(Got::Nothing),
+    }
+}
+
+fn chunks<K: Store>(store: &mut K, alloc: Global, hash: &[u8; 32]) -> Result<Got, ClientError> {
+    let object = store.xorb_footer(alloc, &MerkleHash::from_bytes(*hash))?;
+    Ok(Got::Number(u64::from(object.num_chunks())))
+}
+
+fn raw_length<K: Store>(store: &mut K, alloc: Global, hash: &[u8; 32]) -> Result<Got, ClientError> {
+    let length = store.xorb_raw_length(alloc, &MerkleHash::from_bytes(*hash))?;
+    Ok(Got::Number(length))
+}
+
+fn raw_bytes<K: Store>(
+    store: &mut K,
+    alloc: Global,
+    hash: &[u8; 32],
+    range: Option<FileRange>,
+) -> Result<Got, ClientError> {
+    let bytes = store.get_xorb_raw_bytes(alloc, &MerkleHash::from_bytes(*hash), range)?;
+    Ok(Got::Text(bytes))
+}
+
+fn delete_xorb<K: Store>(
+    store: &mut K,
+    alloc: Global,
+    hash: &[u8; 32],
+) -> Result<Got, ClientError> {
+    store.delete_xorb(alloc, &MerkleHash::from_bytes(*hash))?;
+    Ok(Got::Done)
+}
+
+fn delete_shard<K: Store>(
+    store: &mut K,
+    alloc: Global,
+    name: &[u8; 32],
+) -> Result<Got, ClientError> {
+    store.delete_shard_entry(alloc, &MerkleHash::from_bytes(*name))?;
+    Ok(Got::Done)
+}
+
+fn hide<K: Store>(store: &mut K, alloc: Global, file: &[u8; 32]) -> Result<Got, ClientError> {
+    store.delete_file_entry(alloc, &MerkleHash::from_bytes(*file))?;
+    Ok(Got::Done)
+}
+
+fn set_expiration<K: Store>(store: &mut K, millis: u64) -> Result<Got, ClientError> {
+    store.set_fetch_term_url_expiration(millis)?;
+    Ok(Got::Done)
+}
+
+/// What a store answers to a call.
+fn answer<K: Store>(store: &mut K, alloc: Global, call: &Call) -> Result<Got, ClientError> {
+    match call {
+        Call::Xorb(hash, content) => upload_xorb(store, alloc, hash, content),
+        Call::Shard(file, start, end, length) => {
+            list(store, alloc, file, Some(segment(*start, *end, *length)))
+        }
+        Call::EmptyFile(file) => list(store, alloc, file, None),
+        Call::TornShard => upload_shard(store, alloc, Bytes::from_static(TORN)),
+        Call::Info(file) => info(store, alloc, file),
+        Call::Size(file) => size(store, alloc, file),
+        Call::Data(file, range) => data(store, alloc, file, range_of(*range)),
+        Call::Plan(file, range) => plan(store, alloc, file, range_of(*range)),
+        Call::Exists(hash) => exists(store, alloc, hash),
+        Call::Xorbs => xorbs(store, alloc),
+        Call::Chunks(hash) => chunks(store, alloc, hash),
+        Call::RawLength(hash) => raw_length(store, alloc, hash),
+        Call::RawBytes(hash, range) => raw_bytes(store, alloc, hash, range_of(*range)),
+        Call::DeleteXorb(hash) => delete_xorb(store, alloc, hash),
+        Call::DeleteShard(name) => delete_shard(store, alloc, name),
+        Call::Hide(file) => hide(store, alloc, file),
+        Call::SetExpiration(millis) => set_expiration(store, *millis),
+        Call::Expiration => Ok(Got::Number(store.fetch_term_url_expiration())),
+    }
+}
+
+fn is_wanted(got: &Got, want: &Want) -> bool {
+    match (got, want) {
+        (Got::Done, Want::Done) => true,
+        (Got::Nothing, Want::Nothing) => true,
+        (Got::Number(got), Want::Number(want)) => got == want,
+        (Got::Text(got), Want::Text(want)) => got.as_slice() == *want,
+        _ => false,
+    }
+}
+
+fn is_wanted_refusal(error: &ClientError, want: &Want) -> bool {
+    match error {
+        ClientError::FileNotFound(_) => matches!(want, Want::NoFile),
+        ClientError::XORBNotFound(_) => matches!(want, Want::NoXorb),
+        ClientError::FormatError(FormatFault::Xorb) => matches!(want, Want::BadXorb),
+        ClientError::FormatError(FormatFault::Shard) => matches!(want, Want::BadShard),
+        ClientError::FormatError(FormatFault::Segment) => matches!(want, Want::BadSegment),
+        ClientError::InvalidRange => matches!(want, Want::BadRange),
+        ClientError::Other(_) => matches!(want, Want::Other),
+        _ => false,
+    }
+}
+
+/// Whether the call answers what it is to, asked once more where memory was wanting.
+fn is_right<K: Store>(store: &mut K, alloc: Global, call: &Call, want: &Want) -> bool {
+    let answered = match answer(store, alloc, call) {
+        Err(ClientError::OutOfMemory) => answer(store, alloc, call),
+        answered => answered,
+    };
+    match answered {
+        Ok(got) => is_wanted(&got, want),
+        Err(error) => is_wanted_refusal(&error, want),
+    }
+}
+
+/// Calls, in order, and what each is to answer.
+const ROWS: &[(Call, Want)] = &[
+    (Call::Expiration, Want::Number(18_446_744_073_709_551_615)),
+    (Call::SetExpiration(5), Want::Done),
+    (Call::Expiration, Want::Number(5)),
+    (Call::Xorbs, Want::Nothing),
+    (Call::Xorb(OTHER, TORN), Want::BadXorb),
+    (Call::Xorb(OTHER, XORB), Want::Other),
+    (Call::Exists(OTHER), Want::Number(0)),
+    (Call::Xorb(NAME, XORB), Want::Number(152)),
+    (Call::Xorb(NAME, TORN), Want::Number(0)),
+    (Call::Exists(NAME), Want::Number(1)),
+    (Call::Xorbs, Want::Text(NAME)),
+    (Call::Chunks(NAME), Want::Number(2)),
+    (Call::Chunks(OTHER), Want::NoXorb),
+    (Call::RawLength(NAME), Want::Number(152)),
+    (Call::RawLength(OTHER), Want::NoXorb),
+    (Call::RawBytes(NAME, Some((0, 24))), Want::Text(XORB)),
+    (Call::RawBytes(NAME, Some((132, 999))), Want::Text(XORB_END)),
+    (Call::RawBytes(NAME, Some((9, 9))), Want::Text(b"")),
+    (Call::RawBytes(NAME, Some((9, 8))), Want::BadRange),
+    (Call::RawBytes(NAME, Some((152, 153))), Want::BadRange),
+    (Call::RawBytes(OTHER, None), Want::NoXorb),
+    (Call::TornShard, Want::BadShard),
+    (Call::Size(FILE), Want::NoFile),
+    (Call::Data(FILE, None), Want::NoFile),
+    (Call::Plan(FILE, None), Want::Nothing),
+    (Call::Info(FILE), Want::Nothing),
+    (Call::EmptyFile(EMPTY), Want::Number(1)),
+    (Call::Size(EMPTY), Want::Number(0)),
+    (Call::Data(EMPTY, Some((0, 0))), Want::BadRange),
+    (Call::Data(EMPTY, None), Want::Text(b"")),
+    (Call::Plan(EMPTY, None), Want::Done),
+    (Call::Shard(FILE, 0, 1, 3), Want::Number(1)),
+    (Call::Shard(FILE, 1, 2, 5), Want::Number(1)),
+    (Call::Info(FILE), Want::Text(SECOND)),
+    (Call::Data(FILE, None), Want::Text(b"defgh")),
+    (Call::Data(FILE, Some((1, 99))), Want::Text(b"efgh")),
+    (Call::Data(FILE, Some((2, 2))), Want::Text(b"")),
+    (Call::Data(FILE, Some((2, 1))), Want::BadRange),
+    (Call::Data(FILE, Some((5, 6))), Want::BadRange),
+    (
+        Call::Plan(FILE, None),
+        Want::Text(b"911ad105ed394fd10f7b88f673c975a460fce4b4446b75761bfd52bbbc0a3a75:11:24:7"),
+    ),
+    (Call::Plan(FILE, Some((5, 6))), Want::Nothing),
+    (Call::Plan(FILE, Some((2, 2))), Want::BadRange),
+    (Call::DeleteShard(SECOND), Want::Done),
+    (Call::DeleteShard(SECOND), Want::Other),
+    (Call::Info(FILE), Want::Text(FIRST)),
+    (Call::Data(FILE, None), Want::Text(b"abc")),
+    (Call::Hide(FILE), Want::Done),
+    (Call::Hide(FILE), Want::Done),
+    (Call::Size(FILE), Want::NoFile),
+    (Call::Plan(FILE, None), Want::Nothing),
+    (Call::Shard(FILE, 1, 2, 5), Want::Number(1)),
+    (Call::Size(FILE), Want::Number(5)),
+    (Call::Shard(FILE, 0, 1, 3), Want::Number(1)),
+    (Call::Info(FILE), Want::Text(FIRST)),
+    (Call::Shard(TORN_FILE, 0, 2, 7), Want::Number(1)),
+    (Call::Data(TORN_FILE, None), Want::BadSegment),
+    (Call::Plan(TORN_FILE, None), Want::BadSegment),
+    (Call::DeleteXorb(NAME), Want::Done),
+    (Call::DeleteXorb(NAME), Want::Done),
+    (Call::Exists(NAME), Want::Number(0)),
+    (Call::Data(FILE, None), Want::NoXorb),
+    (Call::Plan(FILE, None), Want::NoXorb),
+];
+
+/// Calls a store for each row, in order.
+fn every_call<K: Store>(rt: &impl Abort, alloc: Global, store: &mut K) {
+    for (call, want) in ROWS {
+        assert!(rt; is_right(store, alloc, call, want));
+    }
+}
+
+#[test]
+fn in_memory(rt: HostRuntime) -> Result<(), Fail> {
+    let alloc = rt.alloc();
+    let mut store = MemoryClient::new(alloc);
+    every_call(&rt, alloc, &mut store);
+    Ok(())
+}
