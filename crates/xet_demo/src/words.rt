@@ -40,3 +40,6 @@ fn is_word(words: &[String], only: &str) -> bool
         _ => false,
     }
 }
+
+#[cfg(test)]
+mod tests;
