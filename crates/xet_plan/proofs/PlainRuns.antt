@@ -1,5 +1,5 @@
 -- Runs and groups that are found one after the other.
-use Rattle.std.proofs.Common.{◌≡◌, ◌∙◌, ℕ, ◌+◌, ◌-◌, ◌<◌, ◌≤◌, not, suc, List, [], ◌∷◌, length, get_or, take, drop, filter, refl, sym, ap, subst, arith, Bool, true, false, ◌⊎◌, inl, inr}
+use Rattle.std.proofs.Common.{◌≡◌, ◌∙◌, ℕ, ◌-◌, ◌<◌, ◌≤◌, not, suc, List, [], ◌∷◌, length, get_or, take, drop, filter, refl, sym, ap, subst, arith, Bool, true, false, ◌⊎◌, inl, inr}
 use Rattle.std.specs.List.{AllByRecursion}
 use Rattle.std.proofs.lemmas.Bool.{cases_lt}
 use Rattle.std.proofs.lemmas.List.{take_all, length-drop}
@@ -17,21 +17,6 @@ Between P from past k = P k × (from ≤ k) × (k < past)
 starts_in : (Q : ℕ → Type 0) (rs : List Interval) → Separated rs → ((k : ℕ) → Covers rs k → Q k) → AllByRecursion (λ q. Q q.start) rs
 starts_in Q [] s f = tt
 starts_in Q (r ∷ rs) s f = (f r.start (inl (omega arith, s.0)), starts_in Q rs s.2 (λ k c. f k (inr c)))
-
-pub runs_none : (P : ℕ → Type 0) (from past : ℕ) → past ≤ from → IsRuns (Between P from past) []
-runs_none P from past h = record { separated = tt; covers = λ k. (λ c. absurd c, λ t. absurd (omega (arith, t.1, t.2))) }
-
-pub runs_skip : (P : ℕ → Type 0) (from past : ℕ) (rs : List Interval) → (P from → ⊥) → IsRuns (Between P (from + 1) past) rs → IsRuns (Between P from past) rs
-runs_skip P from past rs n r = record { separated = r.separated; covers = λ k. (λ c. down k ((r.covers k).0 c), λ t. (r.covers k).1 (up k t)) }
-  where
-    down : (k : ℕ) → Between P (from + 1) past k → Between P from past k
-    down k t = (t.0, omega (arith, t.1), t.2)
-
-    up : (k : ℕ) → Between P from past k → Between P (from + 1) past k
-    up k t = elim (cases_lt from k) as (λ _. Between P (from + 1) past k) [
-      | inl l ↦ (t.0, omega arith, t.2)
-      | inr l ↦ (let e : k ≡ from = omega (arith, t.1) in absurd (n (subst P e t.0)))
-    ]
 
 pub runs_first : (P : ℕ → Type 0) (from end past : ℕ) (rs : List Interval) → from < end → end ≤ past → ((k : ℕ) → from ≤ k → k < end → P k) → (end < past → P end → ⊥)
     → IsRuns (Between P end past) rs → IsRuns (Between P from past) (interval from end ∷ rs)
@@ -183,9 +168,6 @@ merged_first chunks h n rs gs some first r m = record {
     outside : (x : List ℕ) (k : ℕ) → Has chunks x k → (b : Bool) → same_hash x h ≡ b → InGroups (group h rs ∷ gs) x k
     outside x k p true e = inl (sym (same-hash x h e), (r.covers k).1 (subst (λ y. Has chunks y k) (same-hash x h e) p))
     outside x k p false e = inr ((m.covers x k).1 (has_others h chunks x k p (other-hash x h e)))
-
-pub merged_none : IsMerged (Has []) []
-merged_none = record { rising = tt; runs = tt; covers = λ x k. (λ c. absurd c, λ p. absurd p) }
 
 -- what is known of the first chunk and of the others
 pub below_all : (xs : List Chunk) (c : Chunk) (m n : ℕ) → 0 < length xs → c ≡ get_or xs 0 c → AllByRecursion (λ d. d.number < m) (drop 1 xs) → m ≤ n → c.number < n → AllByRecursion (λ d. d.number < n) xs
