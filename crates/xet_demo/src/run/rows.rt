@@ -8,6 +8,7 @@ use xet_types::{MemorySink, MemorySource};
 
 mod failing;
 mod fetched;
+mod plainly;
 mod planned;
 
 /// A row's name, its script and the lines that are printed, each in pieces.
@@ -41,6 +42,14 @@ const ABC: &str = "0 xorb [abc] 0003000000030000616263\n";
 
 /// Lists the file as that chunk.
 const LISTS_ABC: &str = "[shard][F]01000000[abc]0000000000000000010000000300000000000000\n";
+
+/// A xorb of the chunks `a`, `x`, `bc`, `yy` and `def`.
+const FIVE: &str =
+    "0 xorb [five] 00010000000100006100010000000100007800020000000200006263000200000002000079790003000000030000646566\n";
+
+/// Lists the file as the chunks `a`, `bc` and `def` of that xorb.
+const LISTS_GAPS: &str =
+    "[shard][F]03000000[five]00000000000000000100000001000000[five]00000000020000000300000002000000[five]0000000004000000050000000300000000000000\n";
 
 /// Adds the digits as often as the count says.
 fn put_repeated(text: &mut String, digits: &str, count: &str) -> Result<(), Fail> {

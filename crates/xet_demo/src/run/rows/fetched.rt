@@ -1,14 +1,6 @@
 //! Rows of fetches, in several orders, and with a newer shard between.
 use super::*;
 
-/// A xorb of the chunks `a`, `x`, `bc`, `yy` and `def`.
-const FIVE: &str =
-    "0 xorb [five] 00010000000100006100010000000100007800020000000200006263000200000002000079790003000000030000646566\n";
-
-/// Lists the file as the chunks `a`, `bc` and `def` of that xorb.
-const LISTS_GAPS: &str =
-    "[shard][F]03000000[five]00000000000000000100000001000000[five]00000000020000000300000002000000[five]0000000004000000050000000300000000000000\n";
-
 /// Lists the file as the chunks `x` and `yy` of that xorb.
 const LISTS_OTHERS: &str =
     "[shard][F]02000000[five]00000000010000000200000001000000[five]0000000003000000040000000200000000000000\n";
