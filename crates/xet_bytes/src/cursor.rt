@@ -1,7 +1,7 @@
 //! A place in bytes, and the fields behind it.
-ghost use Rattle.std.specs.Prelude.{◌≡◌, ◌↔◌, ℕ, [], IsTrue, IfOk, length};
+ghost use Rattle.std.specs.Prelude.{◌≡◌, ◌↔◌, ℕ, [], IsTrue, IfOk, IfErr, length};
 ghost use Rattle.std.specs.Int.{w32, w64};
-ghost use Rattle.xet_bytes.specs.declared.cursor.ReadError.TheVariants.{Memory};
+ghost use Rattle.xet_bytes.specs.declared.cursor.ReadError.TheVariants.{Memory, Malformed};
 ghost use Rattle.xet_bytes.specs.Reading.{Gives, bytes_at, number_at, number24_at, literal_at, nothing_at};
 
 use std::alloc::{AllocError, AllocFailed};
@@ -44,7 +44,7 @@ impl<T: Drop> From<AllocFailed<T>> for ReadError {
 /// A place in bytes, which contracts see as the bytes that are left.
 ///
 /// Each call reads a field from the front: Ok answers it and passes it, and the bytes are malformed exactly where they
-/// don't begin with such a field.
+/// don't begin with such a field. Then nothing is passed. No call takes memory.
 #[derive(Drop)]
 pub struct Cursor<'a> {
     rest: &'a [u8],
@@ -82,7 +82,8 @@ impl<'a> Cursor<'a> {
 
     /// Tests that nothing is left.
     pub fn end(&self) -> Result<(), ReadError>
-        ensures { Gives (λ x. x) result self.now (nothing_at self.now) }
+        ensures value { Gives (λ x. x) result self.now (nothing_at self.now) }
+        ensures err { IfErr result (λ e. e ≡ Malformed) }
     {
         if self.rest.is_empty() {
             Ok(())
@@ -94,6 +95,7 @@ impl<'a> Cursor<'a> {
     /// The next bytes, so many.
     pub fn bytes(&mut self, count: usize) -> Result<&'a [u8], ReadError>
         ensures value { Gives (λ x. x.now) result self.new (bytes_at count self.old) }
+        ensures err { IfErr result (λ e. (e ≡ Malformed) × (self.new ≡ self.old)) }
         ensures length { IfOk result (λ x. length x.now ≡ count) }
     {
         if self.rest.len() < count {
@@ -106,7 +108,8 @@ impl<'a> Cursor<'a> {
 
     /// The next 32 bytes.
     pub fn hash(&mut self) -> Result<MerkleHash, ReadError>
-        ensures { Gives (λ x. x) result self.new (bytes_at 32 self.old) }
+        ensures value { Gives (λ x. x) result self.new (bytes_at 32 self.old) }
+        ensures err { IfErr result (λ e. (e ≡ Malformed) × (self.new ≡ self.old)) }
     {
         let bytes = self.bytes(32)?;
         let mut hash = [0; 32];
@@ -116,7 +119,8 @@ impl<'a> Cursor<'a> {
 
     /// A number in three bytes, the low byte first.
     pub fn u24(&mut self) -> Result<u32, ReadError>
-        ensures { Gives (λ n. n) result self.new (number24_at self.old) }
+        ensures value { Gives (λ n. n) result self.new (number24_at self.old) }
+        ensures err { IfErr result (λ e. (e ≡ Malformed) × (self.new ≡ self.old)) }
     {
         let bytes = self.bytes(3)?;
         Ok(u32::from_le_bytes([bytes[0], bytes[1], bytes[2], 0]))
@@ -124,7 +128,8 @@ impl<'a> Cursor<'a> {
 
     /// A number in four bytes, the low byte first.
     pub fn u32(&mut self) -> Result<u32, ReadError>
-        ensures { Gives (λ n. n) result self.new (number_at w32 self.old) }
+        ensures value { Gives (λ n. n) result self.new (number_at w32 self.old) }
+        ensures err { IfErr result (λ e. (e ≡ Malformed) × (self.new ≡ self.old)) }
     {
         let bytes = self.bytes(4)?;
         Ok(u32::from_le_bytes([bytes[0], bytes[1], bytes[2], bytes[3]]))
@@ -132,7 +137,8 @@ impl<'a> Cursor<'a> {
 
     /// A number in eight bytes, the low byte first.
     pub fn u64(&mut self) -> Result<u64, ReadError>
-        ensures { Gives (λ n. n) result self.new (number_at w64 self.old) }
+        ensures value { Gives (λ n. n) result self.new (number_at w64 self.old) }
+        ensures err { IfErr result (λ e. (e ≡ Malformed) × (self.new ≡ self.old)) }
     {
         let bytes = self.bytes(8)?;
         Ok(u64::from_le_bytes([
@@ -142,7 +148,8 @@ impl<'a> Cursor<'a> {
 
     /// Tests that these bytes come next, and passes them.
     pub fn literal(&mut self, text: &[u8]) -> Result<(), ReadError>
-        ensures { Gives (λ x. x) result self.new (literal_at text.now self.old) }
+        ensures value { Gives (λ x. x) result self.new (literal_at text.now self.old) }
+        ensures err { IfErr result (λ e. (e ≡ Malformed) × (self.new ≡ self.old)) }
     {
         match self.rest.strip_prefix(text) {
             Some(rest) => {

@@ -4,3 +4,4 @@ pub mod Steps
 pub mod Printing
 pub mod OneWord
 pub mod HexPairs
+pub mod HexDigits

@@ -4,8 +4,7 @@ use Rattle.std.specs.Io.KnownBytes.{Appends}
 use Rattle.std.proofs.KnownBytes.{Appends-nil, Appends-trans}
 use Rattle.std.proofs.Math.Seq.{take-add}
 use Rattle.std.proofs.lemmas.Bool.{false≢true}
-use Rattle.std.proofs.lemmas.List.{take-take, take_all, append-nil, take-append-drop, take-append-le, length-append, drop-set, length-set, length-drop}
-use Rattle.std.specs.Prelude.{slice_set}
+use Rattle.std.proofs.lemmas.List.{take-take, take_all, append-nil, take-append-drop, take-append-le, length-append}
 use Rattle.hex.specs.Hex.{encode_with}
 use Rattle.xet_types.specs.Faults.{Rose}
 use Rattle.xet_demo.specs.Pages.{Output, Holds, Prints, WritesFront, PageText, output, with_text, blank}
@@ -78,19 +77,6 @@ pub encode_with-append : (t xs ys : List ℕ) → encode_with t (xs ++ ys) ≡ e
 unfolding encode_with
 encode_with-append t [] ys = refl
 encode_with-append t (x ∷ xs) ys = rw (encode_with-append t xs ys) refl
-
--- the digit that is put before the others
-pub drop-set_before : (digits : List ℕ) (start digit : ℕ) → 1 ≤ start → start ≤ length digits → drop (start - 1) (slice_set digits (start - 1) digit) ≡ digit ∷ drop start digits
-drop-set_before digits start digit some within =
-    let back : start - 1 + 1 ≡ start = omega arith in
-    drop-set digits (start - 1) digit (omega arith) ∙ ap (λ (i : ℕ). digit ∷ drop i digits) back
-
--- the digits of a number whose first one is put last
-pub number_digits : (digits text : List ℕ) (start first : ℕ) → length digits ≡ 20 → 1 ≤ start → start ≤ 20 → (first ∷ []) ++ drop start digits ≡ text → take (20 - (start - 1)) (drop (start - 1) (slice_set digits (start - 1) first)) ≡ text
-number_digits digits text start first size some within is =
-    let written = slice_set digits (start - 1) first in
-    let enough : length (drop (start - 1) written) ≤ 20 - (start - 1) = omega (arith, length-drop (start - 1) written, length-set digits (start - 1) first, size) in
-    take_all (20 - (start - 1)) (drop (start - 1) written) enough ∙ drop-set_before digits start first some (omega (arith, size, within)) ∙ is
 
 -- nothing is printed on a blank page
 pub holds_nothing : (taken : Option (List ℕ)) (faults : ℕ) → Holds taken faults [] (output taken faults blank)

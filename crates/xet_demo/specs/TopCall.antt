@@ -13,9 +13,19 @@ use Rattle.xet_demo.specs.Printed.{replies_text}
 use Rattle.xet_demo.specs.declared.run.Status.{Status}
 use Rattle.xet_demo.specs.declared.run.Status.TheVariants.{Done, Usage, BadLine, ReadFault, WriteFault, TooLong, OutOfMemory}
 
--- the words are the one word `memory`
+-- the words are this one alone
+abbrev pub IsWord : List ℕ → List (List ℕ) → Type 0
+IsWord only words = words ≡ only ∷ []
+
+-- the words are the one word `memory`, `--help` or `--version`
 abbrev pub IsMemory : List (List ℕ) → Type 0
-IsMemory words = words ≡ codes "memory" ∷ []
+IsMemory words = IsWord (codes "memory") words
+
+abbrev pub IsHelp : List (List ℕ) → Type 0
+IsHelp words = IsWord (codes "--help") words
+
+abbrev pub IsVersion : List (List ℕ) → Type 0
+IsVersion words = IsWord (codes "--version") words
 
 -- the exit status of the process
 abbrev pub exit_of : Status → ℕ

@@ -76,3 +76,6 @@ fn main(rt: HostRuntime) -> ExitCode {
     }
     ExitCode::from(status.exit())
 }
+
+#[cfg(test)]
+mod tests;

@@ -9,7 +9,7 @@ use crate::print::print_replies;
 use crate::script::{ScriptError, parse_script};
 use crate::words::is_memory;
 use std::alloc::Global;
-use std::fmt;
+use std::{fmt, mem};
 use xet_service::{ChunkService, Reply, Step, run_steps};
 use xet_types::{Failed, OutOfMemory, Sink, Source};
 
@@ -135,6 +135,13 @@ fn write_replies<K: Sink>(alloc: Global, sink: &mut K, replies: &[Reply]) -> Sta
     }
 }
 
+/// Keeps the memory of a run, which the process gives back as a whole when it ends. Piece by piece it takes as long as
+/// printing a part of the replies.
+fn leave(steps: Vec<Step>, replies: Vec<Reply>) {
+    mem::forget(steps);
+    mem::forget(replies);
+}
+
 /// Runs the script that the source gives.
 fn run<S: Source, K: Sink>(alloc: Global, source: &mut S, sink: &mut K) -> Status
     ensures ends { EndsSo Answered (sides (S.left source.old) (S.faults source.old) (K.taken sink.old) (K.faults sink.old)) (sides (S.left source.new) (S.faults source.new) (K.taken sink.new) (K.faults sink.new)) result }
@@ -145,7 +152,11 @@ fn run<S: Source, K: Sink>(alloc: Global, source: &mut S, sink: &mut K) -> Statu
         Err(status) => return status,
     };
     match replies_of(alloc, &steps) {
-        Ok(replies) => write_replies(alloc, sink, &replies),
+        Ok(replies) => {
+            let status = write_replies(alloc, sink, &replies);
+            leave(steps, replies);
+            status
+        }
         Err(OutOfMemory) => Status::OutOfMemory,
     }
 }

@@ -15,3 +15,5 @@ pub mod Bytes
 pub mod Unique
 pub mod PlanLaws
 pub mod Left
+pub mod Plainly
+pub mod PlainRuns

@@ -21,7 +21,7 @@ before-itself a p = let e : slice_cmp nat_cmp a a ≡ Equal = tied_itself nat_li
 pub before-same : (a b : List ℕ) → Before a b → a ≡ b → ⊥
 before-same a b p e = before-itself b (subst (λ x. Before x b) e p)
 
-same_from_equal : (a b : List ℕ) → slice_cmp nat_cmp a b ≡ Equal → a ≡ b
+pub same_from_equal : (a b : List ℕ) → slice_cmp nat_cmp a b ≡ Equal → a ≡ b
 same_from_equal a b e = (bytes_decides a b).0 (sym (is_eq-slice_cmp a b) ∙ ap is_eq e)
 
 pub same-hash : (a b : List ℕ) → same_hash a b ≡ true → a ≡ b
@@ -30,7 +30,7 @@ same-hash a b e = (bytes_decides a b).0 e
 pub other-hash : (a b : List ℕ) → same_hash a b ≡ false → a ≡ b → ⊥
 other-hash a b e p = let t : same_hash a b ≡ true = (bytes_decides a b).1 p in cc
 
-turned : (a b : List ℕ) → slice_cmp nat_cmp b a ≡ Greater → Before a b
+pub turned : (a b : List ℕ) → slice_cmp nat_cmp b a ≡ Greater → Before a b
 turned a b e = nat_list_cmp_total.antisymm a b ∙ ap ordering_reverse e
 
 no_less : (m n : ℕ) (rest : Ordering) → is_lt (ordering_then (nat_cmp m n) rest) ≡ false → n ≤ m

@@ -48,7 +48,7 @@ later h [] x k a p = absurd p
 later h (g ∷ gs) x k a (inl p) = subst (λ y. Before h y) p.0 a.0
 later h (g ∷ gs) x k a (inr p) = later h gs x k a.1 p
 
-first_of : (rs : List Interval) → 0 < length rs → Separated rs → (k : ℕ) × Covers rs k
+pub first_of : (rs : List Interval) → 0 < length rs → Separated rs → (k : ℕ) × Covers rs k
 first_of [] l s = absurd (omega arith)
 first_of (r ∷ rs) l s = (r.start, inl (omega arith, s.0))
 

@@ -9,3 +9,4 @@ pub mod Least
 pub mod FileBytes
 pub mod Plans
 pub mod Answers
+pub mod Plain

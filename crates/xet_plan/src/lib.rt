@@ -4,6 +4,7 @@
 pub mod footers;
 pub mod groups;
 pub mod place;
+pub mod plain;
 pub mod planner;
 pub mod runs;
 

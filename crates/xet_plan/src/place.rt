@@ -63,7 +63,7 @@ pub struct Cut {
 }
 
 /// Whether the segment's chunks are those of the xorb, and as long as it lists.
-fn is_agreed(object: &XorbObject, segment: &Segment) -> bool
+pub(crate) fn is_agreed(object: &XorbObject, segment: &Segment) -> bool
     ensures value { result ≡ agrees segment.now object.now }
     ensures nonempty { All (λ n. 0 < n) object.now.lengths }
 {

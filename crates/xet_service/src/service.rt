@@ -137,11 +137,10 @@ impl ChunkService {
         }
         let links = Items::from_vec(links_of(alloc, &plan, at)?);
         if links.is_empty() {
-            let bytes = Octets::from_vec(Vec::new(alloc))?;
             self.next = read + 1;
             return Ok(Reply::Finished {
                 read,
-                bytes,
+                bytes: Octets::new(),
                 wire: 0,
                 cache: no_note(),
             });

@@ -40,7 +40,6 @@ fn push_slots(
 ) -> Result<(), OutOfMemory>
     ensures { OnOk result (slots.new.items ≡ slots.old.items ++ map slot_of (group_runs (hash.now, ranges.now))) }
 {
-    slots.reserve(ranges.len())?;
     for range in ranges {
         slots.push(Slot {
             hash: *hash,
@@ -51,6 +50,15 @@ fn push_slots(
     Ok(())
 }
 
+/// How many runs the groups have together, up to the type's end.
+pub fn count_of(merged: &[(MerkleHash, Vec<MergedRange>)]) -> usize {
+    let mut count = 0usize;
+    for group in merged {
+        count = count.saturating_add(group.1.len());
+    }
+    count
+}
+
 /// One slot for each run, all left.
 pub fn slots_of(
     alloc: Global,
@@ -58,7 +66,7 @@ pub fn slots_of(
 ) -> Result<Vec<Slot>, OutOfMemory>
     ensures { IfOk result (λ slots. slots.items ≡ map slot_of (flat_map group_runs (map ranges_shown merged.now))) }
 {
-    let mut slots = Vec::new(alloc);
+    let mut slots = Vec::with_capacity(alloc, count_of(merged))?;
     for group in merged {
         push_slots(&mut slots, &group.0, &group.1)?;
     }

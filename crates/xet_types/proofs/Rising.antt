@@ -56,9 +56,9 @@ module _ {A B : Type 0} (h : List A → List B) where
       → new.items ≡ h old.items → IsMade h made ((hash, old) ∷ rest) all → IsMade h (made ++ (hash, new) ∷ []) rest all
   behind made hash old new rest all of_old was =
       let moved : map listed (made ++ (hash, new) ∷ []) ++ map (over h) (map listed rest) ≡ map listed made ++ (hash.0, new.items) ∷ map (over h) (map listed rest) =
-            ap (λ xs. xs ++ map (over h) (map listed rest)) (map_push listed made (hash, new)) ∙ append_assoc (map listed made) (listed (hash, new) ∷ []) (map (over h) (map listed rest)) in
+      ap (λ xs. xs ++ map (over h) (map listed rest)) (map_push listed made (hash, new)) ∙ append_assoc (map listed made) (listed (hash, new) ∷ []) (map (over h) (map listed rest)) in
       let keys : keys_of (made ++ (hash, new) ∷ []) ++ keys_of rest ≡ keys_of made ++ hash ∷ keys_of rest =
-            ap (λ xs. xs ++ keys_of rest) (map_push (λ (e : HexMerkleHash × Vec B). e.0) made (hash, new)) ∙ append_assoc (keys_of made) (hash ∷ []) (keys_of rest) in
+      ap (λ xs. xs ++ keys_of rest) (map_push (λ (e : HexMerkleHash × Vec B). e.0) made (hash, new)) ∙ append_assoc (keys_of made) (hash ∷ []) (keys_of rest) in
       record {
         same = moved ∙ ap (λ (xs : List B). map listed made ++ (hash.0, xs) ∷ map (over h) (map listed rest)) of_old ∙ was.same;
         rises = subst (IsStrictlySortedBy hex_cmp) (sym keys) was.rises;

@@ -1,5 +1,11 @@
 -- Records of plans as values.
-use Rattle.std.specs.Prelude.{ℕ, List, [], ◌∷◌, map}
+use Rattle.std.specs.Prelude.{◌≡◌, ℕ, List, [], ◌∷◌, ◌++◌, map, Bool, nat_eq, IsTrue}
+use Rattle.std.proofs.Common.{ap, ◌∙◌}
+use Rattle.std.specs.Ordering.{on, eq_of_both}
+use Rattle.std.specs.Cmp.{IsEquivalence, on_equiv, and_equiv, first_so, second_so}
+use Rattle.std.specs.Cmp.Lexicographic.{pointwise, nat_list_eq_equiv, bytes_decides}
+use Rattle.std.specs.Hash as fed
+use Rattle.std.specs.Hash.{HashWrites}
 use Rattle.xet_types.specs.declared.range.Range.{Range}
 use Rattle.xet_types.specs.declared.range._C.{_C}
 use Rattle.xet_types.specs.declared.range._H.{_H}
@@ -11,6 +17,26 @@ pub record FetchInfo : Type 0 where
   pub range : Range ℕ _C
   pub url : List ℕ
   pub url_range : Range ℕ _H
+
+abbrev pub ends_of : FetchInfo → List ℕ
+ends_of f = f.range.start ∷ f.range.end ∷ f.url_range.start ∷ f.url_range.end ∷ []
+
+-- equal where the ranges and the texts are
+abbrev pub same_info : FetchInfo → FetchInfo → Bool
+same_info = eq_of_both (on ends_of (pointwise nat_eq)) (on (λ f. f.url) (pointwise nat_eq))
+
+pub same_info_equiv : IsEquivalence same_info
+same_info_equiv = and_equiv (on_equiv ends_of nat_list_eq_equiv) (on_equiv (λ f. f.url) nat_list_eq_equiv)
+
+-- what a hasher is fed
+abbrev pub info_writes : FetchInfo → HashWrites
+info_writes f = fed.slice fed.u64 (ends_of f) ++ fed.str f.url
+
+pub info_writes_alike : (a b : FetchInfo) → IsTrue (same_info a b) → info_writes a ≡ info_writes b
+info_writes_alike a b same =
+    let ends : ends_of a ≡ ends_of b = (bytes_decides (ends_of a) (ends_of b)).0 (first_so (pointwise nat_eq (ends_of a) (ends_of b)) (pointwise nat_eq a.url b.url) same) in
+    let urls : a.url ≡ b.url = (bytes_decides a.url b.url).0 (second_so (pointwise nat_eq (ends_of a) (ends_of b)) (pointwise nat_eq a.url b.url) same) in
+    ap (λ (t : List ℕ). fed.slice fed.u64 t ++ fed.str a.url) ends ∙ ap (λ (t : List ℕ). fed.slice fed.u64 (ends_of b) ++ fed.str t) urls
 
 -- A plan of version 1: how many bytes to leave out at the front, the terms in file order, and what to fetch of each xorb, in
 -- order of hash, then chunk number.

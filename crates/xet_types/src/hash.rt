@@ -104,6 +104,11 @@ impl fmt::Display for MerkleHash {
 }
 
 impl fmt::Debug for MerkleHash {
+    ghost use Rattle.std.specs.Prelude.{Some};
+    ghost use Rattle.hex.specs.Hex.{encode_lower};
+
+    ghost debug_output = { λ h. Some (encode_lower h) };
+
     fn fmt<W: fmt::Write>(&self, f: &mut fmt::Formatter<W>) -> fmt::Result {
         fmt::Display::fmt(self, f)
     }

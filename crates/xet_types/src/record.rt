@@ -1,6 +1,6 @@
 //! Records of plans.
 ghost use Rattle.std.specs.Prelude.{◌≡◌, IfOk, map};
-ghost use Rattle.xet_types.specs.Records.{fetch_of, fetches_of, xorb_fetches, second_of};
+ghost use Rattle.xet_types.specs.Records.{ends_of, fetch_of, fetches_of, xorb_fetches, second_of};
 ghost use Rattle.xet_types.specs.RecordMaps.{listed};
 
 use crate::error::OutOfMemory;
@@ -9,6 +9,7 @@ use crate::key::HexMerkleHash;
 use crate::range::{ChunkRange, HttpRange};
 use std::alloc::Global;
 use std::collections::BTreeMap;
+use std::hash::{Hash, Hasher};
 use std::marker::Model;
 
 /// A part of a file: chunks of one xorb, one behind the other.
@@ -51,6 +52,65 @@ impl Model for XorbReconstructionFetchInfo {
     ghost view = { λ f. record { range = f.range; url = string_bytes f.url; url_range = f.url_range } };
 }
 
+impl XorbReconstructionFetchInfo {
+    /// Another of the same fields.
+    pub fn clone(&self, alloc: Global) -> Result<XorbReconstructionFetchInfo, OutOfMemory>
+        ensures { IfOk result (λ info. info ≡ self.now) }
+    {
+        Ok(XorbReconstructionFetchInfo {
+            range: self.range,
+            url: String::from_str(alloc, self.url.as_str())?,
+            url_range: self.url_range,
+        })
+    }
+}
+
+impl XorbReconstructionFetchInfo {
+    /// The ends of its ranges.
+    fn ends(&self) -> [u64; 4]
+        ensures { result ≡ ends_of self.now }
+    {
+        [
+            u64::from(self.range.start),
+            u64::from(self.range.end),
+            self.url_range.start,
+            self.url_range.end,
+        ]
+    }
+}
+
+impl PartialEq for XorbReconstructionFetchInfo {
+    ghost use Rattle.xet_types.specs.Records.{same_info, same_info_equiv};
+    ghost use Rattle.std.specs.Cmp.{partial_equiv_from_equiv};
+
+    ghost eq = { same_info };
+
+    ghost laws = { partial_equiv_from_equiv same_info_equiv };
+
+    fn eq(&self, other: &XorbReconstructionFetchInfo) -> bool {
+        self.ends() == other.ends() && self.url == other.url
+    }
+}
+
+impl Eq for XorbReconstructionFetchInfo {
+    ghost use Rattle.xet_types.specs.Records.{same_info_equiv};
+
+    ghost laws = { same_info_equiv };
+}
+
+impl Hash for XorbReconstructionFetchInfo {
+    ghost use Rattle.xet_types.specs.Records.{info_writes, info_writes_alike};
+
+    ghost hash_input = { info_writes };
+
+    ghost respects_eq = { info_writes_alike };
+
+    fn hash<H: Hasher>(&self, state: &mut H) {
+        self.ends().hash(state);
+        self.url.hash(state);
+    }
+}
+
 /// A plan of version 1: each run of a xorb's chunks has a link of its own.
 #[derive(Debug, Drop)]
 pub struct QueryReconstructionResponse {
@@ -72,6 +132,47 @@ impl Model for QueryReconstructionResponse {
     ghost view = { λ p. record { offset_into_first_range = p.offset_into_first_range; terms = p.terms.items; fetch_info = map listed p.fetch_info.entries } };
 }
 
+/// Other entries of the same fields.
+fn copy_of_infos(
+    alloc: Global,
+    infos: &[XorbReconstructionFetchInfo],
+) -> Result<Vec<XorbReconstructionFetchInfo>, OutOfMemory>
+    ensures { IfOk result (λ copy. copy.items ≡ infos.now) }
+{
+    let mut copy = Vec::with_capacity(alloc, infos.len())?;
+    for info in infos {
+        copy.push(info.clone(alloc)?)?;
+    }
+    Ok(copy)
+}
+
+fn copy_of_fetch_info(
+    alloc: Global,
+    fetch_info: &BTreeMap<HexMerkleHash, Vec<XorbReconstructionFetchInfo>>,
+) -> Result<BTreeMap<HexMerkleHash, Vec<XorbReconstructionFetchInfo>>, OutOfMemory>
+    ensures { IfOk result (λ copy. map listed copy.entries ≡ map listed fetch_info.now.entries) }
+{
+    let mut copy = BTreeMap::new(alloc);
+    for (hash, infos) in fetch_info {
+        let copied = copy_of_infos(alloc, infos)?;
+        copy.insert(*hash, copied)?;
+    }
+    Ok(copy)
+}
+
+impl QueryReconstructionResponse {
+    /// Another of the same fields.
+    pub fn clone(&self, alloc: Global) -> Result<QueryReconstructionResponse, OutOfMemory>
+        ensures { IfOk result (λ plan. plan ≡ self.now) }
+    {
+        Ok(QueryReconstructionResponse {
+            offset_into_first_range: self.offset_into_first_range,
+            terms: Vec::from_slice(alloc, &self.terms)?,
+            fetch_info: copy_of_fetch_info(alloc, &self.fetch_info)?,
+        })
+    }
+}
+
 /// What brings some runs of a xorb's chunks together, in a plan of version 2.
 #[derive(Debug, Drop)]
 pub struct XorbMultiRangeFetch {
@@ -88,6 +189,18 @@ impl Model for XorbMultiRangeFetch {
     ghost Value = { RangesFetch };
 
     ghost view = { λ f. record { url = string_bytes f.url; ranges = f.ranges.items } };
+}
+
+impl XorbMultiRangeFetch {
+    /// Another of the same fields.
+    pub fn clone(&self, alloc: Global) -> Result<XorbMultiRangeFetch, OutOfMemory>
+        ensures { IfOk result (λ fetch. fetch ≡ self.now) }
+    {
+        Ok(XorbMultiRangeFetch {
+            url: String::from_str(alloc, self.url.as_str())?,
+            ranges: Vec::from_slice(alloc, &self.ranges)?,
+        })
+    }
 }
 
 /// A plan of version 2: a link may bring several runs of a xorb's chunks.
@@ -109,6 +222,34 @@ impl Model for QueryReconstructionResponseV2 {
     ghost Value = { SecondPlan };
 
     ghost view = { λ p. record { offset_into_first_range = p.offset_into_first_range; terms = p.terms.items; xorbs = map listed p.xorbs.entries } };
+}
+
+/// Other links of the same fields.
+fn copy_of_fetches(
+    alloc: Global,
+    fetches: &[XorbMultiRangeFetch],
+) -> Result<Vec<XorbMultiRangeFetch>, OutOfMemory>
+    ensures { IfOk result (λ copy. copy.items ≡ fetches.now) }
+{
+    let mut copy = Vec::with_capacity(alloc, fetches.len())?;
+    for fetch in fetches {
+        copy.push(fetch.clone(alloc)?)?;
+    }
+    Ok(copy)
+}
+
+fn copy_of_xorbs(
+    alloc: Global,
+    xorbs: &BTreeMap<HexMerkleHash, Vec<XorbMultiRangeFetch>>,
+) -> Result<BTreeMap<HexMerkleHash, Vec<XorbMultiRangeFetch>>, OutOfMemory>
+    ensures { IfOk result (λ copy. map listed copy.entries ≡ map listed xorbs.now.entries) }
+{
+    let mut copy = BTreeMap::new(alloc);
+    for (hash, fetches) in xorbs {
+        let copied = copy_of_fetches(alloc, fetches)?;
+        copy.insert(*hash, copied)?;
+    }
+    Ok(copy)
 }
 
 /// A link of one run.
@@ -159,6 +300,17 @@ fn xorbs_of(
 }
 
 impl QueryReconstructionResponseV2 {
+    /// Another of the same fields.
+    pub fn clone(&self, alloc: Global) -> Result<QueryReconstructionResponseV2, OutOfMemory>
+        ensures { IfOk result (λ plan. plan ≡ self.now) }
+    {
+        Ok(QueryReconstructionResponseV2 {
+            offset_into_first_range: self.offset_into_first_range,
+            terms: Vec::from_slice(alloc, &self.terms)?,
+            xorbs: copy_of_xorbs(alloc, &self.xorbs)?,
+        })
+    }
+
     /// The same plan in version 2: each entry becomes a link of one run, in the same order.
     pub fn from_v1(
         alloc: Global,

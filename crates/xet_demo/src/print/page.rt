@@ -4,6 +4,8 @@ ghost use Rattle.std.specs.Fmt.{decimal};
 ghost use Rattle.hex.specs.Hex.{encode_lower};
 ghost use Rattle.xet_demo.specs.Pages.{Prints, Writes, output, blank, with_text};
 
+use super::digits::spell;
+use itoa::Buffer;
 use std::alloc::Global;
 use std::marker::Model;
 use xet_types::{Failed, MerkleHash, OutOfMemory, Sink};
@@ -124,17 +126,8 @@ impl Page {
     pub fn put_number<K: Sink>(&mut self, sink: &mut K, number: u64)
         ensures { Prints (output (K.taken sink.old) (K.faults sink.old) self.old) (output (K.taken sink.new) (K.faults sink.new) self.new) (decimal number) }
     {
-        let mut digits = [0u8; 20];
-        let mut start = 20;
-        let mut rest = number;
-        'digits: while rest >= 10 {
-            start -= 1;
-            digits[start] = b'0' + (rest % 10) as u8;
-            rest /= 10;
-        }
-        start -= 1;
-        digits[start] = b'0' + rest as u8;
-        self.put(sink, &digits[start..]);
+        let mut buffer = Buffer::new();
+        self.put(sink, buffer.format(number).as_bytes());
     }
 
     /// Prints a hash as 64 hexadecimal digits.
@@ -142,10 +135,8 @@ impl Page {
         ensures { Prints (output (K.taken sink.old) (K.faults sink.old) self.old) (output (K.taken sink.new) (K.faults sink.new) self.new) (encode_lower hash.now) }
     {
         let mut digits = [0u8; 64];
-        match hex::encode_to_slice(hash.as_bytes(), &mut digits) {
-            Ok(()) => self.put(sink, &digits),
-            Err(_) => unreachable!(),
-        }
+        spell(hash.as_slice(), &mut digits);
+        self.put(sink, &digits);
     }
 
     /// Prints few bytes as hexadecimal digits.
@@ -155,10 +146,8 @@ impl Page {
     {
         let mut room = [0u8; 2048];
         let digits = &mut room[..2 * bytes.len()];
-        match hex::encode_to_slice(bytes, digits) {
-            Ok(()) => self.put(sink, digits),
-            Err(_) => unreachable!(),
-        }
+        spell(bytes, digits);
+        self.put(sink, digits);
     }
 
     /// Prints bytes as hexadecimal digits.

@@ -137,33 +137,6 @@ fn printed_lines(rt: HostRuntime) -> Result<(), Fail> {
 }
 
 #[test]
-fn a_sink_that_fails(rt: HostRuntime) -> Result<(), Fail> {
-    let bytes = vec![in rt.alloc(); 0u8; 100_000]?;
-    let mut replies = Vec::new(rt.alloc());
-    replies.push(Reply::Finished {
-        read: 0,
-        bytes: Octets::from_vec(bytes)?,
-        wire: 0,
-        cache: CacheNote {
-            hits: 0,
-            stored: 0,
-            refused: None,
-        },
-    })?;
-    for failing in 0..4u64 {
-        let mut sink = MemorySink::new(rt.alloc(), &[failing])?;
-        let status = write_replies(rt.alloc(), &mut sink, &replies);
-        assert_eq!(rt; status, Status::WriteFault);
-        assert!(rt; sink.taken().len() < 200_048);
-    }
-    let mut sink = MemorySink::new(rt.alloc(), &[4])?;
-    let status = write_replies(rt.alloc(), &mut sink, &replies);
-    assert_eq!(rt; status, Status::Done);
-    assert_eq!(rt; sink.taken().len(), 200_048);
-    Ok(())
-}
-
-#[test]
 fn texts_and_exits(rt: HostRuntime) -> Result<(), Fail> {
     let cases = [
         (Status::Done, 0, "done"),

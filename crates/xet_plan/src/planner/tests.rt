@@ -3,6 +3,7 @@ ghost use Rattle.xet_xorb.specs.Lengths.{AreLengths};
 
 use super::*;
 use crate::groups::group;
+use crate::plain;
 use std::collections::BTreeMap;
 use std::process::Abort;
 use std::sync::Arc;
@@ -133,7 +134,19 @@ fn shown(alloc: Global, answer: &Result<Option<Plan>, ClientError>) -> Result<St
     Ok(String::from_str(alloc, word)?)
 }
 
-/// The answer, and how often the footers were asked.
+/// What is known of xorbs 1 to 5, each beside its hash.
+fn known_xorbs(alloc: Global) -> Result<Vec<(MerkleHash, XorbObject)>, Fail> {
+    let memory = make_memory(alloc)?;
+    let mut xorbs = Vec::new(alloc);
+    for n in 1..6u8 {
+        let stored = memory.xorbs.get(&hash(n)).ok_or("xorb")?;
+        let hashes = Vec::from_slice(alloc, &stored.hashes)?;
+        xorbs.push((hash(n), XorbObject::new(alloc, hashes, &stored.lengths)?))?;
+    }
+    Ok(xorbs)
+}
+
+/// The answer of the planner and of the plain program, and how often the footers were asked.
 fn is_planned(
     rt: &impl Abort,
     alloc: Global,
@@ -153,6 +166,8 @@ fn is_planned(
     let answer = compute_reconstruction_ranges(alloc, &listing, range, &mut memory);
     assert_eq!(rt; shown(alloc, &answer)?.as_str(), want);
     assert_eq!(rt; memory.asked, asked, "{want}");
+    let answer = plain::plan(alloc, &known_xorbs(alloc)?, &listing, range);
+    assert_eq!(rt; shown(alloc, &answer)?.as_str(), want, "the plain program");
     Ok(())
 }
 

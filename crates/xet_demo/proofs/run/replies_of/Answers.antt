@@ -1,4 +1,4 @@
-use Rattle.std.proofs.Common.{◌≡◌, List, refl, subst}
+use Rattle.std.proofs.Common.{List, refl, subst}
 use Rattle.xet_service.specs.declared.reply.Reply.{Reply}
 use Rattle.xet_service.specs.World.{State, start}
 use Rattle.xet_service.specs.Headline.{RanKeeping}
