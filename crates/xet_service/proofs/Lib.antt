@@ -20,3 +20,4 @@ pub mod Serving
 pub mod RangeOrder
 pub mod ReaderBodies
 pub mod ReaderLinks
+pub mod ReaderTerms

@@ -11,3 +11,4 @@ pub mod Headline
 pub mod Reading
 pub mod ReadingPlans
 pub mod ReadingOrder
+pub mod ReadingSteps

@@ -113,6 +113,7 @@ pub record IsMisfit (range : XorbRangeDescriptor) (held : List HeldTerm) (body :
   pub whole : AreWholeChunks body chunks
   pub misfit : fits range held chunks ≡ false
 
+-- What a body brings of one range; `is` says which answer stands for its chunks.
 abbrev pub BringsOne : {T : Type 0} → (Chunks → T → Type 0) → XorbRangeDescriptor → List HeldTerm → List ℕ → Result T Refusal → Type 0
 BringsOne is range held body (Ok got) = (chunks : Chunks) × (Spells range held body chunks × is chunks got)
 BringsOne is range held body (Err Other) = length body ≡ bytes_in range.bytes → ⊥

@@ -1,6 +1,6 @@
 -- The open read that a plan of version 2 gives, and which plans give none.
-use Rattle.std.specs.Prelude.{◌≡◌, ℕ, suc, Bool, true, false, ◌&&◌, nat_le, List, [], ◌∷◌, ◌++◌, map, max, is_some, slice_get, slice_set, Option, Some, None, Result, Ok, Err, if◌then◌else◌}
-use Rattle.std.specs.List.{flat_map, sum_by}
+use Rattle.std.specs.Prelude.{◌≡◌, ℕ, suc, Bool, true, false, ◌&&◌, ◌==◌, nat_le, List, [], ◌∷◌, ◌++◌, map, max, is_some, Option, Some, None, Result, Ok, Err, if◌then◌else◌}
+use Rattle.std.specs.List.{flat_map, filter, sum_by}
 use Rattle.xet_types.specs.Names.{same_hash}
 use Rattle.xet_types.specs.Records.{SecondPlan, RangesFetch}
 use Rattle.xet_types.specs.declared.range.Range.{Range}
@@ -77,17 +77,14 @@ held_by t (Some r) = held_term t r ∷ []
 abbrev pub held_terms : List LinkRange → List XorbReconstructionTerm → List HeldTerm
 held_terms rs ts = flat_map (λ t. held_by t (range_of rs t)) ts
 
-abbrev pub with_term : List ReadLink → ℕ → Option ReadLink → HeldTerm → List ReadLink
-with_term links n None h = links
-with_term links n (Some link) h = slice_set links n (record link { held = link.held ++ h ∷ [] })
+-- the range that holds the term is one of the link of this number
+abbrev pub is_of_link : ℕ → HeldTerm → Bool
+is_of_link n h = h.range.link == n
 
--- the link of the term's range holds the term
-abbrev pub give_term : List ReadLink → HeldTerm → List ReadLink
-give_term links h = with_term links h.range.link (slice_get links h.range.link) h
-
-abbrev pub give_terms : List ReadLink → List HeldTerm → List ReadLink
-give_terms links [] = links
-give_terms links (h ∷ hs) = give_terms (give_term links h) hs
+-- each link with the terms that its ranges hold, behind those that it has, the links numbered from a number on
+abbrev pub with_terms : ℕ → List ReadLink → List HeldTerm → List ReadLink
+with_terms n [] hs = []
+with_terms n (l ∷ ls) hs = record l { held = l.held ++ filter (is_of_link n) hs } ∷ with_terms (suc n) ls hs
 
 -- ---- the read
 
@@ -111,7 +108,7 @@ reading_of plan range = record {
   terms = plan_terms plan;
   offset = plan.offset_into_first_range;
   length = length_asked range;
-  links = give_terms (fresh_links plan.xorbs) (plan_terms plan);
+  links = with_terms 0 (fresh_links plan.xorbs) (plan_terms plan);
 }
 
 -- A plan gives an open read exactly where it can, unless memory runs out.

@@ -23,7 +23,9 @@ pub struct LinkRange {
 /// A term, and the chunk range that holds it.
 #[derive(Clone, Copy, Debug)]
 pub struct HeldTerm {
+    /// The term.
     pub term: XorbReconstructionTerm,
+    /// The first range that holds it.
     pub range: LinkRange,
 }
 

@@ -6,7 +6,8 @@ ghost use Rattle.xet_types.specs.Faults.{refusal_of};
 ghost use Rattle.xet_types.specs.declared.error.Refusal.TheVariants.{Other};
 ghost use Rattle.xet_store.specs.Answered.{Answered};
 ghost use Rattle.xet_service.specs.Reading.{count_left, with_got, bytes_in, cut_of_range, has_length, have_lengths, fits, only_range, IsMultipart, BringsOne, BringsPlain, Brings, IsOne};
-ghost use Rattle.xet_service.specs.ReadingPlans.{fresh_link, xorb_links, fresh_links, are_apart, all_apart, give_term, give_terms};
+ghost use Rattle.xet_service.specs.ReadingPlans.{fresh_link, xorb_links, fresh_links, are_apart, all_apart, with_terms};
+ghost use Rattle.xet_service.specs.ReadingSteps.{give_term};
 
 use super::held::HeldTerm;
 use crate::slots::part;
@@ -118,7 +119,7 @@ fn give_term(links: &mut Vec<ReadLink>, held: &HeldTerm) -> Result<(), OutOfMemo
 
 /// Gives each term to the link of its range.
 pub fn give_terms(links: &mut Vec<ReadLink>, terms: &[HeldTerm]) -> Result<(), OutOfMemory>
-    ensures { OnOk result (links.new.items ≡ give_terms links.old.items terms.now) }
+    ensures { OnOk result (links.new.items ≡ with_terms 0 links.old.items terms.now) }
 {
     for held in terms {
         give_term(links, held)?;
@@ -242,7 +243,7 @@ fn chunks_of(
 }
 
 impl ReadLink {
-    /// The chunks of each range that a body spells.
+    /// The chunks of each range that a body spells. Refused as [`super::Reader::accept`] refuses it where the link is left.
     pub fn read(
         &self,
         alloc: Global,
