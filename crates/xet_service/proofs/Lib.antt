@@ -17,3 +17,7 @@ pub mod Stepping
 pub mod Keeping
 pub mod Running
 pub mod Serving
+pub mod RangeOrder
+pub mod ReaderBodies
+pub mod ReaderLinks
+pub mod ReaderTerms

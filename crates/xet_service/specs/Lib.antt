@@ -8,3 +8,7 @@ pub mod Runs
 pub mod Causes
 pub mod Validity
 pub mod Headline
+pub mod Reading
+pub mod ReadingPlans
+pub mod ReadingOrder
+pub mod ReadingSteps

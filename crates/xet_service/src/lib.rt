@@ -3,12 +3,14 @@
 
 mod links;
 mod read;
+pub mod reader;
 pub mod reply;
 pub mod run;
 pub mod service;
 mod slots;
 pub mod step;
 
+pub use reader::Reader;
 pub use reply::{CacheNote, CacheRefusal, PlannedLink, Reply};
 pub use run::run_steps;
 pub use service::ChunkService;

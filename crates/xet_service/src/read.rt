@@ -126,7 +126,7 @@ impl OpenRead {
 }
 
 /// The length of the asked range, where one is given.
-fn asked_length(range: Option<FileRange>) -> Option<u64>
+pub fn asked_length(range: Option<FileRange>) -> Option<u64>
     ensures { result ≡ length_asked range }
 {
     match range {
@@ -171,11 +171,11 @@ fn assembled(
     for term in terms {
         push_term(&mut joined, slots, term)?;
     }
-    cut(Bytes::from_vec(joined)?, offset, length)
+    Ok(Octets::from_bytes(cut(Bytes::from_vec(joined)?, offset, length)?))
 }
 
 /// The bytes less the offset, cut to the length, without copying them.
-fn cut(bytes: Bytes, offset: u64, length: Option<u64>) -> Result<Octets, OutOfMemory>
+pub fn cut(bytes: Bytes, offset: u64, length: Option<u64>) -> Result<Bytes, OutOfMemory>
     ensures { IfOk result (λ part. part ≡ cut_to length (drop offset bytes)) }
 {
     let start = (offset as usize).min(bytes.len());
@@ -184,5 +184,5 @@ fn cut(bytes: Bytes, offset: u64, length: Option<u64>) -> Result<Octets, OutOfMe
         None => rest,
         Some(length) => (length as usize).min(rest),
     };
-    Ok(Octets::from_bytes(bytes.slice(start..start + count)?))
+    Ok(bytes.slice(start..start + count)?)
 }

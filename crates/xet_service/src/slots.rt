@@ -135,7 +135,8 @@ fn chunks_of(slot: &Slot) -> &[Bytes]
     }
 }
 
-fn push_chunks(out: &mut Vec<u8>, chunks: &[Bytes]) -> Result<(), OutOfMemory>
+/// Adds the chunks' bytes.
+pub fn push_chunks(out: &mut Vec<u8>, chunks: &[Bytes]) -> Result<(), OutOfMemory>
     ensures { OnOk result (out.new.items ≡ out.old.items ++ concat chunks.now) }
 {
     for chunk in chunks {
@@ -145,7 +146,7 @@ fn push_chunks(out: &mut Vec<u8>, chunks: &[Bytes]) -> Result<(), OutOfMemory>
 }
 
 /// A part of the chunks, as far as they go.
-fn part<'a>(chunks: &'a [Bytes], start: u32, end: u32) -> &'a [Bytes]
+pub fn part<'a>(chunks: &'a [Bytes], start: u32, end: u32) -> &'a [Bytes]
     ensures { result.now ≡ slice_range chunks.now start end }
 {
     let end = (end as usize).min(chunks.len());

@@ -4,3 +4,4 @@ pub mod WellFormed
 pub mod FooterText
 pub mod Joining
 pub mod Indices
+pub mod WholeChunks

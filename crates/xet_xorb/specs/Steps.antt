@@ -1,5 +1,6 @@
 -- The steps of reading a xorb: a header, and a chunk.
 use Rattle.std.specs.Prelude.{◌≡◌, ℕ, ◌≤◌, Bool, ◌&&◌, nat_lt, ◌==◌, List, [], ◌∷◌, ◌++◌, length, map, drop, Result, Ok, Err}
+use Rattle.std.specs.Global.{Vec}
 use Rattle.xet_types.specs.Names.{chunk_hash}
 use Rattle.xet_bytes.specs.declared.cursor.ReadError.{ReadError}
 use Rattle.xet_bytes.specs.declared.cursor.ReadError.TheVariants.{Memory, Malformed}
@@ -7,7 +8,7 @@ use Rattle.xet_bytes.specs.Reading.{Reading, number24_at, literal_at, pair_at, v
 use Rattle.xet_xorb.specs.declared.read.Parts.{Parts}
 use Rattle.xet_xorb.specs.Lengths.{IsChunkLength}
 use Rattle.xet_xorb.specs.ChunkLists.{IsChunk, lengths_of}
-use Rattle.xet_xorb.specs.XorbBytes.{header_bytes, chunk_bytes, IsXorbText}
+use Rattle.xet_xorb.specs.XorbBytes.{header_bytes, chunk_bytes, IsXorbText, AreWholeChunks}
 
 -- the two lengths of a header are one, above 0
 abbrev pub same_lengths : Unit {0} × (ℕ × (Unit {0} × ℕ)) → Bool
@@ -53,3 +54,8 @@ abbrev pub ReadsParts : List ℕ → Result Parts ReadError → Type 0
 ReadsParts bytes (Ok parts) = ArePartsOf bytes parts
 ReadsParts bytes (Err Memory) = Unit {0}
 ReadsParts bytes (Err Malformed) = (chunks : List (List ℕ)) → IsXorbText bytes chunks → ⊥
+
+abbrev pub TakesChunks : List ℕ → Result (Vec (List ℕ)) ReadError → Type 0
+TakesChunks bytes (Ok chunks) = AreWholeChunks bytes chunks.items
+TakesChunks bytes (Err Memory) = Unit {0}
+TakesChunks bytes (Err Malformed) = (chunks : List (List ℕ)) → AreWholeChunks bytes chunks → ⊥

@@ -17,8 +17,9 @@
 --     where each chunk ends in the joined chunks      4 bytes each
 --
 -- Numbers have their low byte first.
-use Rattle.std.specs.Prelude.{◌≡◌, ℕ, ◌+◌, ◌*◌, List, [], ◌∷◌, ◌++◌, length, map, All, false, Result, Ok, Err}
+use Rattle.std.specs.Prelude.{◌≡◌, ℕ, ◌+◌, ◌*◌, ◌<◌, List, [], ◌∷◌, ◌++◌, length, map, All, false, Result, Ok, Err}
 use Rattle.std.specs.List.{flat_map}
+use Rattle.std.specs.Global.{Vec}
 use Rattle.xet_types.specs.Names.{name_of_hashes}
 use Rattle.xet_types.specs.declared.error.ClientError.{ClientError}
 use Rattle.xet_types.specs.declared.error.ClientError.TheVariants.{FormatError, OutOfMemory}
@@ -94,3 +95,15 @@ WritesXorb chunks (Err e) = ⊥
 pub record AreChunksOf (bytes : List ℕ) (chunks : List (List ℕ)) : Type 0 where
   pub each : All IsChunk chunks
   pub text : bytes ≡ xorb_text chunks
+
+-- the bytes are one whole chunk or more, each behind its header, and nothing else
+pub record AreWholeChunks (bytes : List ℕ) (chunks : List (List ℕ)) : Type 0 where
+  pub spelled : AreChunksOf bytes chunks
+  pub some : 0 < length chunks
+
+-- Chunks are read exactly where the bytes are such, unless memory runs out.
+abbrev pub ReadsWholeChunks : List ℕ → Result (Vec (List ℕ)) ClientError → Type 0
+ReadsWholeChunks bytes (Ok chunks) = AreWholeChunks bytes chunks.items
+ReadsWholeChunks bytes (Err OutOfMemory) = Unit {0}
+ReadsWholeChunks bytes (Err (FormatError faults.Xorb)) = (chunks : List (List ℕ)) → AreWholeChunks bytes chunks → ⊥
+ReadsWholeChunks bytes (Err e) = ⊥

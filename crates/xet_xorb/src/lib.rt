@@ -10,7 +10,7 @@ pub mod write;
 
 pub use deserialize::deserialize_chunks;
 pub use object::{XorbObject, XorbObjectInfoV1};
-pub use read::{ReadXorb, read_xorb};
+pub use read::{ReadXorb, read_chunks, read_xorb};
 pub use segment::append_chunk_segment;
 pub use serialized::SerializedXorbObject;
 pub use write::{with_footer, write_xorb};

@@ -1,8 +1,8 @@
 //! Reading a xorb's bytes.
 ghost use Rattle.std.specs.Prelude.{◌≡◌, drop};
 ghost use Rattle.xet_bytes.specs.Reading.{Gives};
-ghost use Rattle.xet_xorb.specs.Steps.{header_at, ReadsHeader, TakesChunk, ReadsParts};
-ghost use Rattle.xet_xorb.specs.XorbBytes.{ReadsXorb};
+ghost use Rattle.xet_xorb.specs.Steps.{header_at, ReadsHeader, TakesChunk, ReadsParts, TakesChunks};
+ghost use Rattle.xet_xorb.specs.XorbBytes.{ReadsXorb, ReadsWholeChunks};
 
 use crate::object::XorbObject;
 use bytes::Bytes;
@@ -118,6 +118,35 @@ pub fn read_xorb(alloc: Global, content: &Bytes) -> Result<ReadXorb, ClientError
                 has_footer: false,
             })
         }
+        Err(ReadError::Memory) => Err(ClientError::OutOfMemory),
+        Err(ReadError::Malformed) => Err(ClientError::FormatError(FormatFault::Xorb)),
+    }
+}
+
+/// The chunks to the end of the bytes, as slices of them.
+fn take_chunks(alloc: Global, content: &Bytes) -> Result<Vec<Bytes>, ReadError>
+    ensures { TakesChunks content.now result }
+{
+    let mut whole = Vec::new(alloc);
+    let mut rest = content.clone()?;
+    while !rest.is_empty() {
+        let chunk = take_chunk(&mut rest)?;
+        whole.push(chunk)?;
+    }
+    if whole.is_empty() {
+        return Err(ReadError::Malformed);
+    }
+    Ok(whole)
+}
+
+/// Reads chunks without the rest of their xorb: one or more whole ones and nothing else.
+///
+/// The chunks are slices of `content`. `FormatError(Xorb)` exactly where the bytes aren't such.
+pub fn read_chunks(alloc: Global, content: &Bytes) -> Result<Vec<Bytes>, ClientError>
+    ensures { ReadsWholeChunks content.now result }
+{
+    match take_chunks(alloc, content) {
+        Ok(chunks) => Ok(chunks),
         Err(ReadError::Memory) => Err(ClientError::OutOfMemory),
         Err(ReadError::Malformed) => Err(ClientError::FormatError(FormatFault::Xorb)),
     }

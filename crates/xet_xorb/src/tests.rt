@@ -55,6 +55,8 @@ fn writes_and_reads_back(rt: HostRuntime) -> Result<(), Fail> {
         assert!(rt; body <= written.len());
         let read = read_xorb(alloc, &written.slice(..body)?)?;
         assert!(rt; read.chunks.as_slice() == chunks.as_slice());
+        let alone = read_chunks(alloc, &written.slice(..body)?)?;
+        assert!(rt; alone.as_slice() == chunks.as_slice());
         assert!(rt; !read.has_footer);
         check_hash(&rt, read.object.xorb_hash(), name);
         assert_eq!(rt; read.object.serialized_length() as usize, length);
@@ -102,6 +104,8 @@ fn refuses_other_bytes(rt: HostRuntime) -> Result<(), Fail> {
         assert!(rt; is_malformed(&read));
         let joined = deserialize_chunks(alloc, text);
         assert!(rt; is_malformed(&joined));
+        let chunks = read_chunks(alloc, &Bytes::copy_from_slice(alloc, text)?);
+        assert!(rt; is_malformed(&chunks));
     }
     let with_footer = write_xorb(alloc, &chunks_of(alloc, &[b"abc"])?)?;
     assert!(rt; is_malformed(&read_xorb(alloc, &with_footer)));

@@ -1,0 +1,213 @@
+//! Open reads as clients have them.
+ghost use Rattle.std.specs.Prelude.{◌≡◌, ◌++◌, ◌==◌, nat_le, length, IfOk, OnOk, drop, ⊤};
+ghost use Rattle.std.specs.List.{flat_map};
+ghost use Rattle.xet_store.specs.Answered.{Answered};
+ghost use Rattle.xet_service.specs.Reading.{Reading, is_link_left, count_left, Gives, Accepts, got_for, held_text, bytes_read};
+ghost use Rattle.xet_service.specs.ReadingPlans.{total_of, Opens};
+
+mod held;
+mod link;
+mod order;
+
+use crate::read::{asked_length, cut};
+use crate::slots::{part, push_chunks};
+use bytes::Bytes;
+use held::{HeldTerm, all_ranges, held_terms};
+use link::{ReadLink, all_apart, count_left, fresh_links, give_terms, put_got};
+use std::alloc::Global;
+use std::marker::Model;
+use xet_types::{
+    ClientError, FileRange, Items, OutOfMemory, QueryReconstructionResponseV2,
+    XorbReconstructionTerm,
+};
+
+/// An open read of a file, or of a range of its bytes, as a client has it. It takes the body of each link of a plan once, in
+/// any order, and then gives the bytes. It knows no store.
+#[derive(Debug, Drop)]
+pub struct Reader {
+    terms: Vec<HeldTerm>,
+    offset: u64,
+    length: Option<u64>,
+    links: Vec<ReadLink>,
+    /// How many links are left.
+    left: usize,
+}
+
+impl Model for Reader {
+    ghost use Rattle.std.specs.Prelude.{◌≡◌};
+    ghost use Rattle.xet_service.specs.Reading.{Reading, reading_code, count_left};
+
+    ghost Value = { Reading };
+
+    ghost coded = { reading_code };
+
+    ghost view = { λ r. record { terms = r.terms.items; offset = r.offset; length = r.length; links = r.links.items } };
+
+    ghost invariant = { λ r. r.left ≡ count_left r.links.items };
+}
+
+impl Reader {
+    /// Opens the read of a plan, all of whose links are left.
+    ///
+    /// `InvalidArguments` exactly where a link's chunk ranges aren't sorted by start and disjoint, a term's chunk range lies
+    /// in no chunk range of its xorb's links, or the offset passes the terms' total length.
+    pub fn open(
+        alloc: Global,
+        plan: &QueryReconstructionResponseV2,
+        range: Option<FileRange>,
+    ) -> Result<Reader, ClientError>
+        ensures { Opens plan.now range result }
+    {
+        let mut links = fresh_links(alloc, &plan.xorbs)?;
+        if !all_apart(&links) || !reaches(&plan.terms, plan.offset_into_first_range) {
+            return Err(ClientError::InvalidArguments);
+        }
+        let ranges = all_ranges(alloc, &links)?;
+        let Some(terms) = held_terms(alloc, &ranges, &plan.terms)? else {
+            return Err(ClientError::InvalidArguments);
+        };
+        give_terms(&mut links, &terms)?;
+        let left = count_left(&links);
+        Ok(Reader {
+            terms,
+            offset: plan.offset_into_first_range,
+            length: asked_length(range),
+            links,
+            left,
+        })
+    }
+
+    /// How many links the plan has. They are numbered from 0, in the plan's order.
+    pub fn links(&self) -> usize
+        ensures { result ≡ length self.now.links }
+    {
+        self.links.len()
+    }
+
+    /// Whether the plan has a link of this number whose body wasn't taken yet.
+    pub fn is_left(&self, link: usize) -> bool
+        ensures { result ≡ is_link_left self.now.links link }
+    {
+        match self.links.get(link) {
+            Some(link) => link.got.is_none(),
+            None => false,
+        }
+    }
+
+    /// How many links are left.
+    pub fn left(&self) -> usize
+        ensures { result ≡ count_left self.now.links }
+    {
+        self.left
+    }
+
+    /// Takes the body of a link that is left.
+    ///
+    /// A body is multipart exactly where its content type contains `multipart/byteranges`, else it is plain. In this order:
+    /// `InvalidArguments` where the link isn't left; `Other` where the body is multipart, which isn't read yet, or is plain
+    /// and the link has another number of ranges than one, or isn't as long as the one range; `FormatError(Xorb)` where the
+    /// bytes aren't whole chunks; `FormatError(Body)` where the range hasn't its number of chunks, or a term's chunks in it
+    /// don't sum to its length. A refusal leaves the reader as it was. The chunks are slices of the body.
+    pub fn accept(
+        &mut self,
+        alloc: Global,
+        link: usize,
+        content_type: &str,
+        body: Bytes,
+    ) -> Result<(), ClientError>
+        ensures { Answered result (λ r. Accepts self.old link content_type.now body r self.new) (self.new ≡ self.old) }
+    {
+        let got = self.read(alloc, link, content_type, &body)?;
+        put_got(&mut self.links, link, got);
+        self.left -= 1;
+        Ok(())
+    }
+
+    /// The chunks of each range of a link that is left.
+    fn read(
+        &self,
+        alloc: Global,
+        link: usize,
+        content_type: &str,
+        body: &Bytes,
+    ) -> Result<Items<Items<Bytes>>, ClientError>
+        ensures { Answered result (λ r. Gives self.now.links link content_type.now body.now r) ⊤ }
+    {
+        if !self.is_left(link) {
+            return Err(ClientError::InvalidArguments);
+        }
+        self.links[link].read(alloc, content_type, body)
+    }
+
+    /// The asked bytes: the terms' chunks joined, less the offset, cut to the range's length where a range was given.
+    pub fn finish(&self, alloc: Global) -> Result<Bytes, OutOfMemory>
+        requires { count_left self.now.links ≡ 0 }
+        ensures { IfOk result (λ bytes. bytes ≡ bytes_read self.now) }
+    {
+        let joined = joined(alloc, &self.links, &self.terms)?;
+        cut(Bytes::from_vec(joined)?, self.offset, self.length)
+    }
+}
+
+/// Whether the terms together have at least so many bytes.
+fn reaches(terms: &[XorbReconstructionTerm], offset: u64) -> bool
+    ensures { result ≡ nat_le offset (total_of terms.now) }
+{
+    let mut left = offset;
+    for term in terms {
+        left = left.saturating_sub(u64::from(term.unpacked_length));
+    }
+    left == 0
+}
+
+/// The chunks of the range that holds a term, none where they weren't brought.
+fn got_for<'a>(links: &'a [ReadLink], held: &HeldTerm) -> &'a [Bytes]
+    ensures { result.now ≡ got_for links.now held.now }
+{
+    let Some(link) = links.get(held.range.link) else {
+        return &[];
+    };
+    let Some(got) = &link.got else {
+        return &[];
+    };
+    match got.as_slice().get(held.range.number) {
+        Some(chunks) => chunks.as_slice(),
+        None => &[],
+    }
+}
+
+/// Adds a term's chunks.
+fn push_held(out: &mut Vec<u8>, links: &[ReadLink], held: &HeldTerm) -> Result<(), OutOfMemory>
+    ensures { OnOk result (out.new.items ≡ out.old.items ++ held_text links.now held.now) }
+{
+    let first = held.range.chunks.start;
+    let chunks = part(
+        got_for(links, held),
+        held.term.range.start.saturating_sub(first),
+        held.term.range.end.saturating_sub(first),
+    );
+    push_chunks(out, chunks)
+}
+
+/// How many bytes the terms have together, up to the type's end.
+fn room_of(terms: &[HeldTerm]) -> usize {
+    let mut room = 0usize;
+    for held in terms {
+        room = room.saturating_add(held.term.unpacked_length as usize);
+    }
+    room
+}
+
+/// The terms' chunks joined.
+fn joined(alloc: Global, links: &[ReadLink], terms: &[HeldTerm]) -> Result<Vec<u8>, OutOfMemory>
+    ensures { IfOk result (λ bytes. bytes.items ≡ flat_map (held_text links.now) terms.now) }
+{
+    let mut joined = Vec::with_capacity(alloc, room_of(terms))?;
+    for held in terms {
+        push_held(&mut joined, links, held)?;
+    }
+    Ok(joined)
+}
+
+#[cfg(test)]
+mod tests;
