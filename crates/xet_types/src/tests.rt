@@ -1,5 +1,6 @@
 use super::*;
 use std::alloc::Global;
+use std::collections::BTreeMap;
 use std::fmt::Display;
 use std::process::Abort;
 use std::str::FromStr;
@@ -306,5 +307,48 @@ fn writes_through_failures(rt: HostRuntime) -> Result<(), Fail> {
     assert_eq!(rt; memory.write(b"cd"), Ok(2));
     assert_eq!(rt; memory.taken(), b"cd".as_slice());
     assert_eq!(rt; (plain.write(b""), plain.write(b"ab")), (Ok(0), Ok(2)));
+    Ok(())
+}
+
+/// A plan of version 1 with two entries of one xorb.
+fn first_version(alloc: Global, hash: HexMerkleHash) -> Result<QueryReconstructionResponse, Fail> {
+    let mut infos = Vec::new(alloc);
+    for (start, end, url) in [(0, 2, "first"), (3, 4, "second")] {
+        infos.push(XorbReconstructionFetchInfo {
+            range: ChunkRange::new(start, end),
+            url: String::from_str(alloc, url)?,
+            url_range: HttpRange::new(u64::from(start) * 10, u64::from(end) * 10 - 1),
+        })?;
+    }
+    let mut fetch_info = BTreeMap::new(alloc);
+    fetch_info.insert(hash, infos)?;
+    Ok(QueryReconstructionResponse {
+        offset_into_first_range: 5,
+        terms: Vec::new(alloc),
+        fetch_info,
+    })
+}
+
+#[test]
+fn plans_of_both_versions(rt: HostRuntime) -> Result<(), Fail> {
+    let alloc = rt.alloc();
+    let hash = HexMerkleHash(compute_data_hash(b"abc"));
+    let v1 = first_version(alloc, hash)?.clone(alloc)?;
+    let v2 = QueryReconstructionResponseV2::from_v1(alloc, v1)?.clone(alloc)?;
+    assert_eq!(rt;
+        (v2.offset_into_first_range, v2.terms.len(), v2.xorbs.len()),
+        (5, 0, 1)
+    );
+    let fetches = v2.xorbs.get(&hash).ok_or("links")?;
+    let known = [("first", 0, 2, 0, 19), ("second", 3, 4, 30, 39)];
+    assert_eq!(rt; fetches.len(), known.len());
+    for (fetch, (url, start, end, from, to)) in fetches.iter().zip(known) {
+        let range = XorbRangeDescriptor {
+            chunks: ChunkRange::new(start, end),
+            bytes: HttpRange::new(from, to),
+        };
+        assert_eq!(rt; fetch.url.as_str(), url);
+        assert_eq!(rt; fetch.ranges.as_slice(), [range].as_slice());
+    }
     Ok(())
 }
