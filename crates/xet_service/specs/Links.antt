@@ -1,11 +1,10 @@
 -- The links of a plan, and the slots of the read that it opens.
-use Rattle.std.specs.Prelude.{ℕ, ◌-◌, List, [], ◌∷◌, ◌++◌, map, None}
+use Rattle.std.specs.Prelude.{ℕ, ◌-◌, List, [], ◌∷◌, map, None}
 use Rattle.std.specs.List.{flat_map}
-use Rattle.std.specs.Fmt.{decimal}
-use Rattle.hex.specs.Hex.{encode_lower}
 use Rattle.xet_types.specs.declared.record.XorbRangeDescriptor.{XorbRangeDescriptor}
 use Rattle.xet_plan.specs.declared.runs.MergedRange.{MergedRange}
 use Rattle.xet_plan.specs.Plans.{PlanModel}
+unfoldable pub use Rattle.xet_store.specs.Responses.{url_of}
 use Rattle.xet_service.specs.declared.reply.PlannedLink.{PlannedLink}
 use Rattle.xet_service.specs.declared.slots.Slot.{Slot}
 
@@ -23,10 +22,6 @@ group_runs g = map (run g.0) g.1
 -- the runs of a plan in order of hash, then chunk start
 abbrev pub runs_of : PlanModel → List Run
 runs_of plan = flat_map group_runs plan.merged
-
--- the text of a link of version 1: the hash, where the bytes begin, where they end, and the moment
-unfoldable pub url_of : List ℕ → ℕ → ℕ → ℕ → List ℕ
-url_of hash start end at = encode_lower hash ++ (58 ∷ decimal start) ++ (58 ∷ decimal end) ++ (58 ∷ decimal at)
 
 -- the chunks of a run, and their bytes with an inclusive end
 abbrev pub descriptor_of : MergedRange → XorbRangeDescriptor

@@ -1,7 +1,7 @@
 //! What looks into a store directly.
 ghost use Rattle.std.specs.Prelude.{◌≡◌, Some, Ok, IfOk};
 ghost use Rattle.xet_plan.specs.Footers.{FailsOnlyByFault};
-ghost use Rattle.xet_store.specs.StoreModel.{StoreModel};
+ghost use Rattle.xet_store.specs.StoreModel.{StoreModel, IsSound};
 ghost use Rattle.xet_store.specs.Told.{Asks, Follows};
 ghost use Rattle.xet_store.specs.Refusals.{RefusedBy, OfOutside, OfPlan, OfXorb, OfXorbBytes, OfFileSize, OfFileData};
 ghost use Rattle.xet_store.specs.Commands.{Is, set_expiration, delete_xorb};
@@ -35,6 +35,7 @@ pub trait DirectAccessClient: Client {
         at: u64,
     ) -> Result<Option<QueryReconstructionResponse>, ClientError>
         ensures told { (m : StoreModel) → Self.told self.old ≡ Some m → Asks (Responds m file_id.now bytes_range at) result }
+        ensures sound { (m : StoreModel) → Self.told self.old ≡ Some m → IsSound m }
         ensures refusals { RefusedBy OfPlan result }
         ensures stays { Self.told self.new ≡ Self.told self.old }
         ensures cause { FailsOnlyByFault (Self.faults self.old) (Self.faults self.new) result };
@@ -105,6 +106,7 @@ pub trait DirectAccessClient: Client {
         byte_range: Option<FileRange>,
     ) -> Result<Bytes, ClientError>
         ensures told { (m : StoreModel) → Self.told self.old ≡ Some m → Asks (λ r. r ≡ xorb_raw_bytes m hash.now byte_range) result }
+        ensures sound { (m : StoreModel) → Self.told self.old ≡ Some m → IsSound m }
         ensures refusals { RefusedBy (OfXorbBytes hash.now) result }
         ensures stays { Self.told self.new ≡ Self.told self.old }
         ensures cause { FailsOnlyByFault (Self.faults self.old) (Self.faults self.new) result };
