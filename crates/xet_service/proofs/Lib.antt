@@ -21,3 +21,4 @@ pub mod RangeOrder
 pub mod ReaderBodies
 pub mod ReaderLinks
 pub mod ReaderTerms
+pub mod ReaderAnswers

@@ -1,5 +1,5 @@
 //! Open reads as clients have them.
-ghost use Rattle.std.specs.Prelude.{◌≡◌, ◌++◌, ◌==◌, nat_le, length, IfOk, OnOk, drop, ⊤};
+ghost use Rattle.std.specs.Prelude.{◌≡◌, ◌++◌, nat_le, length, IfOk, OnOk, ⊤};
 ghost use Rattle.std.specs.List.{flat_map};
 ghost use Rattle.xet_store.specs.Answered.{Answered};
 ghost use Rattle.xet_service.specs.Reading.{Reading, is_link_left, count_left, Gives, Accepts, got_for, held_text, bytes_read};

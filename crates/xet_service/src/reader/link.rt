@@ -1,11 +1,10 @@
 //! The links of a reader, and what their bodies bring.
-ghost use Rattle.std.specs.Prelude.{◌≡◌, ◌↔◌, ◌++◌, ◌-◌, map, length, sum, IfOk, OnOk, IfSome, IsTrue, slice_get, slice_range, ⊤};
-ghost use Rattle.xet_types.specs.Records.{RangesFetch};
+ghost use Rattle.std.specs.Prelude.{◌≡◌, ◌↔◌, ◌++◌, map, length, sum, IfOk, OnOk, IfSome, IsTrue, slice_get, ⊤};
 ghost use Rattle.xet_types.specs.RecordMaps.{listed};
 ghost use Rattle.xet_types.specs.Faults.{refusal_of};
 ghost use Rattle.xet_types.specs.declared.error.Refusal.TheVariants.{Other};
 ghost use Rattle.xet_store.specs.Answered.{Answered};
-ghost use Rattle.xet_service.specs.Reading.{count_left, with_got, bytes_in, cut_of_range, has_length, have_lengths, fits, only_range, IsMultipart, BringsOne, BringsPlain, Brings, IsOne};
+ghost use Rattle.xet_service.specs.Reading.{count_left, with_got, has_length, have_lengths, fits, only_range, IsMultipart, BringsOne, Brings, IsOne};
 ghost use Rattle.xet_service.specs.ReadingPlans.{fresh_link, xorb_links, fresh_links, are_apart, all_apart, with_terms};
 ghost use Rattle.xet_service.specs.ReadingSteps.{give_term};
 
