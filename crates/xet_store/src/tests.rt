@@ -98,12 +98,27 @@ fn range_of(range: Option<(u64, u64)>) -> Option<FileRange> {
     }
 }
 
+/// A file of one segment, or of none.
+fn file_of(
+    alloc: Global,
+    file: &[u8; 32],
+    listed: Option<Segment>,
+) -> Result<FileListing, OutOfMemory> {
+    let file_hash = MerkleHash::from_bytes(*file);
+    match listed {
+        Some(segment) => Ok(FileListing {
+            file_hash,
+            segments: Vec::from_array(alloc, [segment])?,
+        }),
+        None => Ok(FileListing {
+            file_hash,
+            segments: Vec::new(alloc),
+        }),
+    }
+}
+
 /// The text of a shard that lists one file.
-fn shard_of(alloc: Global, file: &[u8; 32], segments: Vec<Segment>) -> Result<Bytes, OutOfMemory> {
-    let file = FileListing {
-        file_hash: MerkleHash::from_bytes(*file),
-        segments,
-    };
+fn shard_of(alloc: Global, file: FileListing) -> Result<Bytes, OutOfMemory> {
     let shard = Shard {
         expiry: 7,
         files: Vec::from_array(alloc, [file])?,
@@ -155,24 +170,24 @@ fn list<K: Store>(
     file: &[u8; 32],
     listed: Option<Segment>,
 ) -> Result<Got, ClientError> {
-    let mut segments = Vec::new(alloc);
-    if let Some(segment) = listed {
-        segments.push(segment)?;
-    }
-    let content = shard_of(alloc, file, segments)?;
+    let file = file_of(alloc, file, listed)?;
+    let content = shard_of(alloc, file)?;
     upload_shard(store, alloc, content)
 }
 
 /// The name of the shard that lists the file.
 fn info<K: Store>(store: &mut K, alloc: Global, file: &[u8; 32]) -> Result<Got, ClientError> {
     let file = MerkleHash::from_bytes(*file);
-    match store.get_file_reconstruction_info(alloc, &file)? {
-        Some((listing, Some(name))) => {
+    let found = store.get_file_reconstruction_info(alloc, &file)?;
+    let Some(pair) = &found else {
+        return Ok(Got::Nothing);
+    };
+    match &pair.1 {
+        Some(name) => {
             let text = Bytes::copy_from_slice(alloc, name.as_slice())?;
             Ok(Got::Text(text))
         }
-        Some((listing, None)) => Ok(Got::Done),
-        None => Ok(Got::Nothing),
+        None => Ok(Got::Done),
     }
 }
 
