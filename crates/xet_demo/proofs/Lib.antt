@@ -5,3 +5,4 @@ pub mod Printing
 pub mod OneWord
 pub mod HexPairs
 pub mod HexDigits
+pub mod Quiet

@@ -15,7 +15,7 @@ use Rattle.xet_service.specs.declared.reply.CacheNote.{CacheNote}
 use Rattle.xet_service.specs.declared.reply.CacheRefusal.{CacheRefusal}
 use Rattle.xet_service.specs.declared.reply.CacheRefusal.TheVariants as caches
 use Rattle.xet_service.specs.declared.reply.Reply.{Reply}
-use Rattle.xet_service.specs.declared.reply.Reply.TheVariants.{Uploaded, ShardTaken, NoPlan, Planned, Fetched, Finished, Refused}
+use Rattle.xet_service.specs.declared.reply.Reply.TheVariants.{Uploaded, ShardTaken, NoPlan, Done, Planned, Fetched, Finished, Size, Data, Refused}
 use Rattle.xet_demo.specs.declared.print.part.Part.{Part}
 use Rattle.xet_demo.specs.declared.print.part.Part.TheVariants.{Text, Number, Hash}
 
@@ -48,6 +48,15 @@ shard_line taken = joined (codes "shard " ∷ truth_word taken ∷ codes "\n" �
 
 unfoldable pub none_line : List ℕ
 none_line = codes "none\n"
+
+unfoldable pub done_line : List ℕ
+done_line = codes "done\n"
+
+unfoldable pub size_line : ℕ → List ℕ
+size_line n = joined (codes "size " ∷ decimal n ∷ codes "\n" ∷ [])
+
+unfoldable pub data_start : List ℕ
+data_start = codes "data "
 
 unfoldable pub plan_line : ℕ → PlanVersion → ℕ → ℕ → ℕ → List ℕ
 plan_line read version offset terms links =
@@ -142,9 +151,12 @@ abbrev pub reply_text : Reply → List ℕ
 reply_text (Uploaded n) = uploaded_line n
 reply_text (ShardTaken taken) = shard_line taken
 reply_text NoPlan = none_line
+reply_text Done = done_line
 reply_text (Planned read version offset terms links) = plan_line read version offset (length terms) (length links) ++ terms_text terms ++ links_text 0 links
 reply_text (Fetched read link left wire cache) = fetched_start read link left ++ note_text wire cache ++ codes "\n"
 reply_text (Finished read bytes wire cache) = finished_start read ++ note_text wire cache ++ codes " " ++ octets_text bytes ++ codes "\n"
+reply_text (Size n) = size_line n
+reply_text (Data bytes) = data_start ++ octets_text bytes ++ codes "\n"
 reply_text (Refused why) = refused_line why
 
 -- the lines of replies, one reply after another

@@ -5,8 +5,13 @@ use Rattle.std.specs.Global.{Vec}
 use Rattle.xet_types.specs.Faults.{Rose}
 use Rattle.xet_service.specs.declared.step.Step.{Step}
 use Rattle.xet_service.specs.declared.reply.Reply.{Reply}
-use Rattle.xet_service.specs.World.{State, start, Numbered}
-use Rattle.xet_service.specs.Headline.{RanKeeping, NoneOpen}
+use Rattle.std.specs.List.{AllByRecursion}
+use Rattle.xet_plan.specs.FileBytes.{Content}
+use Rattle.xet_service.specs.World.{start}
+use Rattle.xet_service.specs.Runs.{World, world, Event}
+use Rattle.xet_service.specs.Runs as runs
+use Rattle.xet_service.specs.Validity.{IsAgreed, IsQuiet, ReadsSucceed}
+use Rattle.xet_service.specs.Headline.{Keeps, Finishes}
 use Rattle.xet_demo.specs.Script.{lines_of, AreStepsOf, IsFirstBad}
 use Rattle.xet_demo.specs.Pages.{WritesFront}
 use Rattle.xet_demo.specs.Printed.{replies_text}
@@ -44,12 +49,22 @@ limit = 67108864
 abbrev pub piece : ℕ
 piece = 65536
 
--- The replies are those of a run of the steps from the start, which keeps the headline; what it asks of a start holds of this one.
+-- before the first plan no read has bytes
+abbrev pub no_bytes : ℕ → List ℕ
+no_bytes n = []
+
+-- The replies are those of a run of the steps over the empty store in memory, which keeps the headline. One premise is left, of the first
+-- and the fifth sentence: no two chunk lists that are met share a name.
 pub record Answered (steps : List Step) (replies : List Reply) : Type 0 where
-  pub end : State
-  pub ran : RanKeeping start steps [] replies end
-  pub none_open : NoneOpen start
-  pub numbered : Numbered start
+  pub events : List Event
+  pub end : World
+  pub run : runs.IsRun (world start 0 no_bytes) steps replies events end
+  -- links exactly the met chunks; refusals change nothing and have their cause; what is left is left
+  pub keeps : AllByRecursion Keeps events
+  pub finishes : (m : Content) → IsAgreed m events → AllByRecursion Finishes events
+  pub succeeds : (m : Content) → IsAgreed m events → ReadsSucceed events
+  -- the outside never fails
+  pub quiet : AllByRecursion IsQuiet events
 
 -- These bytes were read, they are all that the source had and no more than the limit, and no call failed.
 pub record WasRead (old new : Option (List ℕ)) (before now : ℕ) (script : List ℕ) : Type 0 where

@@ -24,6 +24,13 @@ what each of them answers. A line is a moment in milliseconds, a command and its
   MOMENT shard BYTES        accepts a shard
   MOMENT plan1 FILE RANGE   opens a read of a file; RANGE is `all` or START-END
   MOMENT fetch READ LINK    fetches a link of a read
+  MOMENT abandon READ       closes a read
+  MOMENT hide FILE          hides a file until a shard that lists it is accepted
+  MOMENT delete-shard HASH  takes a shard out
+  MOMENT delete-xorb HASH   takes a xorb out
+  MOMENT expire MS          sets the age above which links are expired
+  MOMENT size FILE          asks how many bytes a file has
+  MOMENT data FILE RANGE    asks for a file's bytes
 
   --help     prints this
   --version  prints the version";

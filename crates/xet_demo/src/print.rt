@@ -2,7 +2,7 @@
 ghost use Rattle.std.specs.Prelude.{◌≡◌, codes};
 ghost use Rattle.std.specs.List.{flat_map};
 ghost use Rattle.xet_demo.specs.Pages.{Prints, output};
-ghost use Rattle.xet_demo.specs.Printed.{part_text, octets_text, truth_word, version_word, uploaded_line, shard_line, none_line, plan_line, term_line, terms_text, range_text, ranges_text, link_start, link_line, links_text, cache_word, note_text, fetched_start, finished_start, refusal_word, refusal_detail, refused_line, reply_text, replies_text};
+ghost use Rattle.xet_demo.specs.Printed.{part_text, octets_text, truth_word, version_word, uploaded_line, shard_line, none_line, done_line, size_line, data_start, plan_line, term_line, terms_text, range_text, ranges_text, link_start, link_line, links_text, cache_word, note_text, fetched_start, finished_start, refusal_word, refusal_detail, refused_line, reply_text, replies_text};
 
 pub mod digits;
 pub mod page;
@@ -122,6 +122,28 @@ fn print_none<K: Sink>(page: &mut Page, sink: &mut K)
     ensures { Prints (output (K.taken sink.old) (K.faults sink.old) page.old) (output (K.taken sink.new) (K.faults sink.new) page.new) none_line }
 {
     page.put(sink, b"none\n");
+}
+
+#[tactic(auto, unfolding(crate::specs::Printed::done_line))]
+fn print_done<K: Sink>(page: &mut Page, sink: &mut K)
+    ensures { Prints (output (K.taken sink.old) (K.faults sink.old) page.old) (output (K.taken sink.new) (K.faults sink.new) page.new) done_line }
+{
+    page.put(sink, b"done\n");
+}
+
+#[tactic(auto, unfolding(crate::specs::Printed::size_line))]
+fn print_size<K: Sink>(page: &mut Page, sink: &mut K, size: u64)
+    ensures { Prints (output (K.taken sink.old) (K.faults sink.old) page.old) (output (K.taken sink.new) (K.faults sink.new) page.new) (size_line size) }
+{
+    let parts = [Part::Text(b"size "), Part::Number(size), Part::Text(b"\n")];
+    print_parts(page, sink, &parts);
+}
+
+#[tactic(auto, unfolding(crate::specs::Printed::data_start))]
+fn print_data_start<K: Sink>(page: &mut Page, sink: &mut K)
+    ensures { Prints (output (K.taken sink.old) (K.faults sink.old) page.old) (output (K.taken sink.new) (K.faults sink.new) page.new) data_start }
+{
+    page.put(sink, b"data ");
 }
 
 fn print_terms<K: Sink>(page: &mut Page, sink: &mut K, terms: &[XorbReconstructionTerm])
@@ -303,6 +325,7 @@ pub fn print_reply<K: Sink>(page: &mut Page, sink: &mut K, reply: &Reply)
         Reply::Uploaded(length) => print_uploaded(page, sink, *length),
         Reply::ShardTaken(taken) => print_shard(page, sink, *taken),
         Reply::NoPlan => print_none(page, sink),
+        Reply::Done => print_done(page, sink),
         Reply::Planned {
             read,
             version,
@@ -342,6 +365,12 @@ pub fn print_reply<K: Sink>(page: &mut Page, sink: &mut K, reply: &Reply)
             print_finished_start(page, sink, *read);
             print_note(page, sink, *wire, cache);
             page.put(sink, b" ");
+            print_octets(page, sink, bytes);
+            page.put(sink, b"\n");
+        }
+        Reply::Size(size) => print_size(page, sink, *size),
+        Reply::Data(bytes) => {
+            print_data_start(page, sink);
             print_octets(page, sink, bytes);
             page.put(sink, b"\n");
         }

@@ -11,6 +11,7 @@ use crate::words::is_memory;
 use std::alloc::Global;
 use std::{fmt, mem};
 use xet_service::{ChunkService, Reply, Step, run_steps};
+use xet_store::MemoryClient;
 use xet_types::{Failed, OutOfMemory, Sink, Source};
 
 /// How many bytes a script may have.
@@ -113,7 +114,7 @@ fn read_steps<S: Source>(alloc: Global, source: &mut S) -> Result<Vec<Step>, Sta
 fn replies_of(alloc: Global, steps: &[Step]) -> Result<Vec<Reply>, OutOfMemory>
     ensures { IfOk result (λ replies. Answered steps.now replies.items) }
 {
-    let mut service = ChunkService::new(alloc);
+    let mut service = ChunkService::new(alloc, MemoryClient::new(alloc));
     let mut replies = Vec::new(alloc);
     run_steps(alloc, &mut service, steps, &mut replies)?;
     Ok(replies)

@@ -1,38 +1,71 @@
 -- What an open read keeps, where one map gives each xorb that is met.
-use Rattle.std.specs.Prelude.{◌≡◌, ℕ, ◌<◌, ◌≤◌, ◌⊎◌, List, drop, length, Option, Some, None, slice_range}
+use Rattle.std.specs.Prelude.{◌≡◌, ℕ, ◌-◌, ◌<◌, ◌≤◌, ◌⊎◌, true, List, [], ◌∷◌, drop, length, map, Option, Some, None, slice_get, slice_range}
 use Rattle.std.specs.List.{flat_map, AllByRecursion}
 use Rattle.std.specs.FinMap.{get}
+use Rattle.xet_types.specs.declared.record.XorbRangeDescriptor.{XorbRangeDescriptor}
 use Rattle.xet_types.specs.declared.record.XorbReconstructionTerm.{XorbReconstructionTerm}
+use Rattle.xet_xorb.specs.Lengths.{packed_before}
+use Rattle.xet_xorb.specs.ChunkLists.{lengths_of, IsWellFormed}
 use Rattle.xet_plan.specs.FileBytes.{Content, term_bytes}
-use Rattle.xet_store.specs.StoreModel.{Chunks}
+use Rattle.xet_store.specs.StoreModel.{Chunks, IsSound}
 use Rattle.xet_store.specs.Plans.{cut_to}
-use Rattle.xet_service.specs.declared.slots.Slot.{Slot}
-use Rattle.xet_service.specs.Reads.{Read, holder, count_left}
+use Rattle.xet_service.specs.declared.read.OpenRead.{OpenRead}
+use Rattle.xet_service.specs.declared.reader.held.HeldTerm.{HeldTerm}
+use Rattle.xet_service.specs.declared.reader.link.ReadLink.{ReadLink}
+use Rattle.xet_service.specs.Reading.{Reading, count_left, have_lengths}
 use Rattle.xet_service.specs.Runs.{World}
 
--- the slot's range lies in the map's list, and what it brought is cut out of it
-pub record GoodSlot (m : Content) (s : Slot) : Type 0 where
-  pub chunks : Chunks
-  pub is : m s.hash ≡ Some chunks
-  pub some : s.range.chunk_range.start < s.range.chunk_range.end
-  pub inside : s.range.chunk_range.end ≤ length chunks
-  pub brought : (s.taken ≡ None) ⊎ (s.taken ≡ Some (slice_range chunks s.range.chunk_range.start s.range.chunk_range.end))
+-- the chunks of a link's range
+abbrev pub cut_chunks : Chunks → XorbRangeDescriptor → Chunks
+cut_chunks all range = slice_range all range.chunks.start range.chunks.end
 
--- a slot holds the term's chunks
-abbrev pub IsHeld : List Slot → XorbReconstructionTerm → Type 0
-IsHeld slots t = (s : Slot) × (holder slots t ≡ Some s)
+-- The link has one range, of chunks that the map's list has; its bytes are where these lie; the terms that it holds have their
+-- chunks' lengths; and what it brought is these chunks.
+pub record GoodLink (m : Content) (l : ReadLink) : Type 0 where
+  pub all : Chunks
+  pub is : m l.hash ≡ Some all
+  pub formed : IsWellFormed all
+  pub range : XorbRangeDescriptor
+  pub only : l.ranges ≡ range ∷ []
+  pub some : range.chunks.start < range.chunks.end
+  pub inside : range.chunks.end ≤ length all
+  pub first : range.bytes.start ≡ packed_before (lengths_of all) range.chunks.start
+  pub last : range.bytes.end ≡ packed_before (lengths_of all) range.chunks.end - 1
+  pub fit : have_lengths (cut_chunks all range) l.held ≡ true
+  pub brought : (l.got ≡ None) ⊎ (l.got ≡ Some (cut_chunks all range ∷ []))
 
--- some link is left, each slot is good, each term is held, and the terms over the map are the fixed bytes
-pub record GoodRead (m : Content) (fixed : List ℕ) (r : Read) : Type 0 where
-  pub left : 0 < count_left r.slots
-  pub slots : AllByRecursion (GoodSlot m) r.slots
-  pub held : AllByRecursion (IsHeld r.slots) r.terms
-  pub bytes : cut_to r.length (drop r.offset (flat_map (term_bytes m) r.terms)) ≡ fixed
+-- the term lies in the one range of a link
+pub record IsHeldIn (links : List ReadLink) (h : HeldTerm) : Type 0 where
+  pub link : ReadLink
+  pub there : slice_get links h.range.link ≡ Some link
+  pub hash : link.hash ≡ h.term.hash
+  pub number : h.range.number ≡ 0
+  pub range : XorbRangeDescriptor
+  pub only : link.ranges ≡ range ∷ []
+  pub from : h.range.chunks.start ≡ range.chunks.start
+  pub low : range.chunks.start ≤ h.term.range.start
+  pub rises : h.term.range.start ≤ h.term.range.end
+  pub high : h.term.range.end ≤ range.chunks.end
 
--- an open read's number was given, and it is good
-abbrev pub GoodAt : Content → World → ℕ → Option Read → Type 0
+abbrev pub term_of : HeldTerm → XorbReconstructionTerm
+term_of h = h.term
+
+-- some link is left, each link is good, each term is held, and the terms over the map are the fixed bytes
+pub record GoodRead (m : Content) (fixed : List ℕ) (r : Reading) : Type 0 where
+  pub left : 0 < count_left r.links
+  pub links : AllByRecursion (GoodLink m) r.links
+  pub held : AllByRecursion (IsHeldIn r.links) r.terms
+  pub bytes : cut_to r.length (drop r.offset (flat_map (term_bytes m) (map term_of r.terms))) ≡ fixed
+
+-- an open read's number was given, it is good, and the store is sound
+pub record IsGoodAt (m : Content) (w : World) (n : ℕ) (r : OpenRead) : Type 0 where
+  pub given : n < w.state.next
+  pub read : GoodRead m (w.fixed n) r.reader
+  pub sound : IsSound w.state.store
+
+abbrev pub GoodAt : Content → World → ℕ → Option OpenRead → Type 0
 GoodAt m w n None = Unit {0}
-GoodAt m w n (Some r) = (n < w.state.next) × GoodRead m (w.fixed n) r
+GoodAt m w n (Some r) = IsGoodAt m w n r
 
 abbrev pub Goods : Content → World → Type 0
 Goods m w = (n : ℕ) → GoodAt m w n (get w.state.reads n)

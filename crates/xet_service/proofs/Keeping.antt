@@ -2,20 +2,22 @@
 use Rattle.std.proofs.Common.{◌≡◌, ◌∙◌, ℕ, ◌⊎◌, inl, inr, List, [], ◌∷◌, Option, Some, None, sym, ap, subst}
 use Rattle.std.specs.List.{AllByRecursion}
 use Rattle.std.specs.Ordering.{nat_cmp}
-use Rattle.std.specs.FinMap.{FinMap, get, get-empty}
+use Rattle.std.specs.FinMap.{get, get-empty}
 use Rattle.xet_types.specs.declared.error.Refusal.{Refusal}
+use Rattle.xet_types.specs.declared.error.Refusal.TheVariants.{FormatError, InvalidRange, InvalidArguments, FileNotFound, XORBNotFound, PresignedUrlExpirationError, IOError, Other, InvalidKey, CacheError, HttpStatus}
 use Rattle.xet_service.specs.declared.reply.Reply.{Reply}
-use Rattle.xet_service.specs.declared.reply.Reply.TheVariants.{Uploaded, ShardTaken, NoPlan, Planned, Fetched, Finished, Refused}
+use Rattle.xet_service.specs.declared.reply.Reply.TheVariants.{Uploaded, ShardTaken, NoPlan, Done, Planned, Fetched, Finished, Size, Data, Refused}
 use Rattle.xet_service.specs.declared.step.Act.TheVariants.{Fetch}
-use Rattle.xet_service.specs.Reads.{Read}
-use Rattle.xet_service.specs.World.{State}
-use Rattle.xet_service.specs.Runs.{World, Event, IsStep, Chain, outcome_of}
-use Rattle.xet_service.specs.Causes.{IsLeft}
-use Rattle.xet_service.specs.Headline.{Keeps, Brings, NoneOpen}
-use Rattle.xet_service.specs.World.{Numbered}
-use Rattle.xet_service.proofs.Stepping.{ok_reply, err_why, Kept, IsBrought, act_kept}
+use Rattle.xet_service.specs.declared.read.OpenRead.{OpenRead}
+use Rattle.xet_service.specs.World.{State, Reads, IsInOrder}
+use Rattle.xet_service.specs.Steps.{Acts}
+use Rattle.xet_service.specs.Runs.{World, Event, IsStep, Fails, Chain, outcome_of}
+use Rattle.xet_service.specs.Causes.{HasCause, IsAsked, IsLeft}
+use Rattle.xet_service.specs.Validity.{NoneOpen}
+use Rattle.xet_service.specs.Headline.{Keeps, Brings, Ends, Cause}
+use Rattle.xet_service.proofs.Stepping.{PlanFacts, ok_reply, err_why, Kept, IsEnded, act_kept}
 
-abbrev some_read : Read → Option Read
+abbrev some_read : OpenRead → Option OpenRead
 some_read r = Some r
 
 -- ---- replies
@@ -24,60 +26,103 @@ pub reply_is : (r x : Reply) → outcome_of r ≡ ok_reply x → r ≡ x
 reply_is (Uploaded n) x e = cc
 reply_is (ShardTaken b) x e = cc
 reply_is NoPlan x e = cc
+reply_is Done x e = cc
 reply_is (Planned n v o t l) x e = cc
 reply_is (Fetched n l c w k) x e = cc
 reply_is (Finished n b w k) x e = cc
+reply_is (Size n) x e = cc
+reply_is (Data b) x e = cc
 reply_is (Refused why) x e = absurd cc
 
 pub refusal_is : (r : Reply) (why : Refusal) → outcome_of r ≡ err_why why → r ≡ Refused why
 refusal_is (Uploaded n) x e = absurd cc
 refusal_is (ShardTaken b) x e = absurd cc
 refusal_is NoPlan x e = absurd cc
+refusal_is Done x e = absurd cc
 refusal_is (Planned n v o t l) x e = absurd cc
 refusal_is (Fetched n l c w k) x e = absurd cc
 refusal_is (Finished n b w k) x e = absurd cc
+refusal_is (Size n) x e = absurd cc
+refusal_is (Data b) x e = absurd cc
 refusal_is (Refused why) x e = cc
 
--- ---- one step
+-- ---- a step that was done
 
-step_kept : (e : Event) → IsStep e → Numbered e.before.state → Kept e.before.state e.step.at e.step.act (outcome_of e.reply) e.after.state
-step_kept e h numbered = act_kept e.before.state e.step.at e.step.act (outcome_of e.reply) e.after.state h.steps numbered
+-- no act is refused with the outside's failure
+cause_of : (e : Event) (why : Refusal) → HasCause e.before.state e.step.at e.step.act why → Cause e why
+cause_of e (FormatError f) h = h
+cause_of e InvalidRange h = h
+cause_of e InvalidArguments h = h
+cause_of e (FileNotFound f) h = h
+cause_of e (XORBNotFound f) h = h
+cause_of e PresignedUrlExpirationError h = h
+cause_of e IOError h = absurd h
+cause_of e Other h = h
+cause_of e InvalidKey h = h
+cause_of e CacheError h = h
+cause_of e (HttpStatus n) h = h
 
-pub numbered_kept : (e : Event) → IsStep e → Numbered e.before.state → Numbered e.after.state
-numbered_kept e h numbered = (step_kept e h numbered).numbered
+module _ (facts : PlanFacts) (e : Event) where
+  ends : (read link : ℕ) → IsLeft e.after.state read link ⊎ IsEnded e.step.act read link (outcome_of e.reply) → IsLeft e.after.state read link ⊎ Ends e read link
+  ends read link (inl l) = inl l
+  ends read link (inr (inl b)) = inr (inl (b.0, subst (Brings read link) (sym (reply_is e.reply b.1.0 b.1.1)) b.1.2))
+  ends read link (inr (inr b)) = inr (inr (b.0, reply_is e.reply Done b.1))
 
-still_left : (e : Event) (read link : ℕ) → IsLeft e.after.state read link ⊎ IsBrought e.step.act read link (outcome_of e.reply) → IsLeft e.after.state read link ⊎ ((e.step.act ≡ Fetch read link) × Brings read link e.reply)
-still_left e read link (inl l) = inl l
-still_left e read link (inr b) = inr (b.0, subst (Brings read link) (sym (reply_is e.reply b.1.0 b.1.1)) b.1.2)
+  done_keeps : Acts e.before.state e.step.at e.step.act (outcome_of e.reply) e.after.state → IsInOrder e.before.state → Keeps e × IsInOrder e.after.state
+  done_keeps h o =
+      let k : Kept e.before.state e.step.at e.step.act (outcome_of e.reply) e.after.state = act_kept facts e.before.state e.step.at e.step.act (outcome_of e.reply) e.after.state h o in (
+        record {
+          links = λ version file range read of offset terms ls a r. k.links version file range read of offset terms ls a (ap outcome_of r);
+          refused = λ why r. k.refused why (ap outcome_of r);
+          cause = λ why r. cause_of e why (k.cause why (ap outcome_of r));
+          no_plan = λ r. k.no_plan (ap outcome_of r);
+          left = λ read link l. ends read link (k.left read link l);
+          gone = λ read link a g. refusal_is e.reply InvalidArguments (k.gone read link a g);
+        },
+        k.in_order,
+      )
 
-pub keeps_all : (e : Event) → IsStep e → Numbered e.before.state → Keeps e
-keeps_all e h numbered =
-    let k : Kept e.before.state e.step.at e.step.act (outcome_of e.reply) e.after.state = step_kept e h numbered in
+  -- a fetch of a link that isn't left asks no outside
+  not_asked : (read link : ℕ) → e.step.act ≡ Fetch read link → IsAsked e.before.state e.step.at e.step.act → IsLeft e.before.state read link
+  not_asked read link a h = (subst (IsAsked e.before.state e.step.at) a h).0
+
+  fails_keeps : Fails e.before.state e.before.faults e.step e.reply e.after.state e.after.faults → IsInOrder e.before.state → Keeps e × IsInOrder e.after.state
+  fails_keeps h o = (
     record {
-      links = λ version file range read of offset terms ls a r. k.links version file range read of offset terms ls a (ap outcome_of r);
-      refused = λ why r. k.refused why (ap outcome_of r);
-      cause = λ why r. k.cause why (ap outcome_of r);
-      no_plan = λ r. k.no_plan (ap outcome_of r);
-      left = λ read link l. still_left e read link (k.left read link l);
-      gone = λ read link a g. refusal_is e.reply _ (k.gone read link a g);
-    }
+      links = λ version file range read of offset terms ls a r. absurd (let f : ◌≡◌ {A = Reply} (Refused IOError) (Planned read of offset terms ls) = sym h.reply_is ∙ r in cc);
+      refused = λ why r. h.same;
+      cause = λ why r. let f : ◌≡◌ {A = Reply} (Refused IOError) (Refused why) = sym h.reply_is ∙ r in let same : IOError ≡ why = cc in subst (Cause e) same h.rose;
+      no_plan = λ r. absurd (let f : ◌≡◌ {A = Reply} (Refused IOError) NoPlan = sym h.reply_is ∙ r in cc);
+      left = λ read link l. inl (subst (λ (s : State). IsLeft s read link) (sym h.same) l);
+      gone = λ read link a g. absurd (g (not_asked read link a h.asked));
+    },
+    subst IsInOrder (sym h.same) o,
+  )
+
+  pub keeps_step : IsStep e → IsInOrder e.before.state → Keeps e × IsInOrder e.after.state
+  keeps_step h o = elim h.steps.does as (λ _. Keeps e × IsInOrder e.after.state) [
+    | inl d ↦ done_keeps d o
+    | inr f ↦ fails_keeps f o
+  ]
 
 -- ---- a chain of steps
 
--- where no read is open, all numbers were given
-pub numbered_none : (s : State) → NoneOpen s → Numbered s
-numbered_none s none n r e =
-    let f : None ≡ some_read r = sym (get-empty nat_cmp n) ∙ ap (λ (m : FinMap nat_cmp Read). get m n) (sym none) ∙ e in
-    absurd cc
+-- where no read is open, all are in order
+pub none_in_order : (s : State) → NoneOpen s → IsInOrder s
+none_in_order s none = record { numbered = λ n r e. absurd (closed n r e); of_one = λ n r e. absurd (closed n r e) }
+  where
+    closed : (n : ℕ) (r : OpenRead) → get s.reads n ≡ Some r → ⊥
+    closed n r e = let f : None ≡ some_read r = sym (get-empty nat_cmp n) ∙ ap (λ (m : Reads). get m n) (sym none) ∙ e in absurd cc
 
-pub numbered_chain : (start : World) (events : List Event) (end : World) → Chain start events end → Numbered start.state → Numbered end.state
-numbered_chain start [] end h numbered = subst (λ (w : World). Numbered w.state) (sym h) numbered
-numbered_chain start (e ∷ es) end h numbered =
-    let before : Numbered e.before.state = subst (λ (w : World). Numbered w.state) (sym h.0) numbered in
-    numbered_chain e.after es end h.2 (numbered_kept e h.1 before)
+pub order_chain : PlanFacts → (start : World) (events : List Event) (end : World) → Chain start events end → IsInOrder start.state → IsInOrder end.state
+order_chain facts start [] end h o = subst (λ (w : World). IsInOrder w.state) (sym h) o
+order_chain facts start (e ∷ es) end h o =
+    let before : IsInOrder e.before.state = subst (λ (w : World). IsInOrder w.state) (sym h.0) o in
+    order_chain facts e.after es end h.2 (keeps_step facts e h.1 before).1
 
-pub keeps_chain : (start : World) (events : List Event) (end : World) → Chain start events end → Numbered start.state → AllByRecursion Keeps events
-keeps_chain start [] end h numbered = tt
-keeps_chain start (e ∷ es) end h numbered =
-    let before : Numbered e.before.state = subst (λ (w : World). Numbered w.state) (sym h.0) numbered in
-    (keeps_all e h.1 before, keeps_chain e.after es end h.2 (numbered_kept e h.1 before))
+pub keeps_chain : PlanFacts → (start : World) (events : List Event) (end : World) → Chain start events end → IsInOrder start.state → AllByRecursion Keeps events
+keeps_chain facts start [] end h o = tt
+keeps_chain facts start (e ∷ es) end h o =
+    let before : IsInOrder e.before.state = subst (λ (w : World). IsInOrder w.state) (sym h.0) o in
+    let k = keeps_step facts e h.1 before in
+    (k.0, keeps_chain facts e.after es end h.2 k.1)

@@ -1,12 +1,12 @@
--- What follows from a plan: its runs, its links, and the read that it opens.
-use Rattle.std.proofs.Common.{◌≡◌, ◌∙◌, ◌↔◌, ℕ, ◌<◌, List, [], ◌∷◌, length, map, Option, sym, subst, arith}
-use Rattle.std.specs.List.{AllByRecursion}
+-- What follows from a plan: its links.
+use Rattle.std.proofs.Common.{◌≡◌, ◌↔◌, ℕ, ◌<◌, List, [], ◌∷◌, length, Option, sym, subst, arith}
+use Rattle.xet_types.specs.Records.{second_of}
 use Rattle.xet_types.specs.declared.range.Range.{Range}
 use Rattle.xet_types.specs.declared.range._F.{_F}
 use Rattle.xet_shard.specs.declared.listing.Segment.{Segment}
 use Rattle.xet_shard.specs.Values.{size_of}
 use Rattle.xet_plan.specs.declared.place.Reach.TheVariants.{Within}
-use Rattle.xet_plan.specs.Places.{Interval, Known, reach, met_segments}
+use Rattle.xet_plan.specs.Places.{Interval, Known, reach}
 use Rattle.xet_plan.specs.MetChunks.{Has, met_chunks}
 use Rattle.xet_plan.specs.Least.{Name}
 use Rattle.xet_plan.specs.Runs.{InGroups}
@@ -14,39 +14,37 @@ use Rattle.xet_plan.specs.FileBytes.{Content, file_bytes}
 use Rattle.xet_plan.specs.Plans.{PlanModel}
 use Rattle.xet_plan.specs.Answers.{IsPlan, groups_of}
 use Rattle.xet_plan.proofs.Least.{reach_within}
-use Rattle.xet_plan.proofs.PlanOk.{all_met}
-use Rattle.xet_store.specs.StoreModel.{StoreModel, known_of, content_of}
-use Rattle.xet_store.specs.Plans.{Serves}
+use Rattle.xet_store.specs.Responses.{first_of}
 use Rattle.xet_service.specs.declared.reply.PlannedLink.{PlannedLink}
-use Rattle.xet_service.specs.Links.{slot_of, runs_of, links_of}
-use Rattle.xet_service.specs.Reads.{InOrder, read_of}
-use Rattle.xet_service.specs.Validity.{AgreesWith}
+use Rattle.xet_service.specs.Links.{planned_links}
 use Rattle.xet_service.specs.Headline.{LinksHave, EachOnce}
-use Rattle.xet_service.proofs.Goods.{GoodRead, IsHeld}
+use Rattle.xet_service.proofs.PlanRuns.{runs_of, links_of, links_same, InOrder}
 use Rattle.xet_service.proofs.RunOrder.{groups_in_order}
-use Rattle.xet_service.proofs.RunChunks.{links_runs, runs_links, groups_runs, runs_groups, runs_once, runs_nonempty}
+use Rattle.xet_service.proofs.RunChunks.{links_runs, runs_links, groups_runs, runs_groups, runs_once}
 use Rattle.xet_service.proofs.MetSome.{reach_rises, some_met, nothing_met}
-use Rattle.xet_service.proofs.Described.{describes_map, same_bytes, met_in_map}
-use Rattle.xet_service.proofs.PlannedRead.{some_left, good_slots, held_terms}
 
--- ---- the links
+-- the links of the plan's answer at a moment
+abbrev pub answered_links : ℕ → PlanModel → List PlannedLink
+answered_links at plan = planned_links (second_of (first_of at plan))
 
--- the slots of a plan's runs are in order
-pub planned_in_order : {known : Known} {segments : List Segment} {clip : Interval} {plan : PlanModel} → IsPlan known segments clip plan → InOrder (map slot_of (runs_of plan))
+-- a plan's runs are in order
+pub planned_in_order : {known : Known} {segments : List Segment} {clip : Interval} {plan : PlanModel} → IsPlan known segments clip plan → InOrder (runs_of plan)
 planned_in_order {plan = plan} p = groups_in_order plan.merged p.merged.rising p.merged.runs
 
 -- the links hold the chunks of the merged ranges
-pub links_have : (plan : PlanModel) (at : ℕ) (hash : List ℕ) (k : ℕ) → LinksHave (links_of at plan) hash k ↔ InGroups (groups_of plan) hash k
+links_have : (plan : PlanModel) (at : ℕ) (hash : List ℕ) (k : ℕ) → LinksHave (links_of at plan) hash k ↔ InGroups (groups_of plan) hash k
 links_have plan at hash k = (λ p. runs_groups plan.merged hash k (links_runs at (runs_of plan) hash k p), λ p. runs_links at (runs_of plan) hash k (groups_runs plan.merged hash k p))
 
 -- which are the met chunks
 pub covers : {known : Known} {segments : List Segment} {clip : Interval} {plan : PlanModel} → IsPlan known segments clip plan → (at : ℕ) (hash : List ℕ) (k : ℕ)
-    → LinksHave (links_of at plan) hash k ↔ Has (met_chunks known clip segments) hash k
-covers {plan = plan} p at hash k = (λ q. (p.merged.covers hash k).0 ((links_have plan at hash k).0 q), λ q. (links_have plan at hash k).1 ((p.merged.covers hash k).1 q))
+    → LinksHave (answered_links at plan) hash k ↔ Has (met_chunks known clip segments) hash k
+covers {known = known} {segments = segments} {clip = clip} {plan = plan} p at hash k =
+    subst (λ (ls : List PlannedLink). LinksHave ls hash k ↔ Has (met_chunks known clip segments) hash k) (sym (links_same at plan))
+    (λ q. (p.merged.covers hash k).0 ((links_have plan at hash k).0 q), λ q. (links_have plan at hash k).1 ((p.merged.covers hash k).1 q))
 
 -- each once
-pub once : {known : Known} {segments : List Segment} {clip : Interval} {plan : PlanModel} → IsPlan known segments clip plan → (at : ℕ) → EachOnce (links_of at plan)
-once {plan = plan} p at = runs_once at (runs_of plan) (planned_in_order p)
+pub once : {known : Known} {segments : List Segment} {clip : Interval} {plan : PlanModel} → IsPlan known segments clip plan → (at : ℕ) → EachOnce (answered_links at plan)
+once {plan = plan} p at = subst EachOnce (sym (links_same at plan)) (runs_once at (runs_of plan) (planned_in_order p))
 
 some_link : (ls : List PlannedLink) (hash : List ℕ) (k : ℕ) → LinksHave ls hash k → 0 < length ls
 some_link [] hash k p = absurd p
@@ -54,29 +52,13 @@ some_link (l ∷ ls) hash k p = omega arith
 
 -- a plan of a file that isn't empty has a link
 pub planned_some : {known : Known} {segments : List Segment} {clip : Interval} {plan : PlanModel} → IsPlan known segments clip plan → (range : Option (Range ℕ _F)) → reach (size_of segments) range ≡ Within clip.start clip.end
-    → 0 < size_of segments → (at : ℕ) → 0 < length (links_of at plan)
+    → 0 < size_of segments → (at : ℕ) → 0 < length (answered_links at plan)
 planned_some {known = known} {segments = segments} {clip = clip} {plan = plan} p range reached some at =
     let c : (c : Name) × Has (met_chunks known clip segments) c.0 c.1
     = some_met known segments clip p.readable (reach_rises (size_of segments) range clip.start clip.end some reached) (reach_within (size_of segments) range clip.start clip.end reached) in
-    some_link (links_of at plan) c.0.0 c.0.1 ((covers p at c.0.0 c.0.1).1 c.1)
+    some_link (answered_links at plan) c.0.0 c.0.1 ((covers p at c.0.0 c.0.1).1 c.1)
 
 -- without links there are no bytes
-pub planned_empty : {known : Known} {segments : List Segment} {clip : Interval} {plan : PlanModel} → IsPlan known segments clip plan → (at : ℕ) → links_of at plan ≡ [] → (content : Content) → file_bytes content clip segments ≡ []
+pub planned_empty : {known : Known} {segments : List Segment} {clip : Interval} {plan : PlanModel} → IsPlan known segments clip plan → (at : ℕ) → answered_links at plan ≡ [] → (content : Content) → file_bytes content clip segments ≡ []
 planned_empty {known = known} {segments = segments} {clip = clip} {plan = plan} p at e content =
     nothing_met known segments clip content p.readable (λ h k q. subst (λ (ls : List PlannedLink). LinksHave ls h k) e ((covers p at h k).1 q))
-
--- ---- the read
-
--- the read that a plan opens is good, and it is to give the file's bytes
-pub planned_good : (m : Content) (store : StoreModel) {segments : List Segment} {range : Option (Range ℕ _F)} {clip : Interval} {plan : PlanModel} → AgreesWith m store → Serves (known_of store) segments range clip plan → (at : ℕ)
-    → 0 < length (links_of at plan) → GoodRead m (file_bytes (content_of store) clip segments) (read_of plan range at)
-planned_good m store {segments = segments} {range = range} {clip = clip} {plan = plan} agree s at some =
-    let p : IsPlan (known_of store) segments clip plan = s.planned in
-    let rs = runs_of plan in
-    record {
-      left = some_left at rs some;
-      slots = good_slots m rs (runs_nonempty plan.merged p.merged.runs) (λ h k q. met_in_map m store clip segments agree p.readable h k ((p.merged.covers h k).0 (runs_groups plan.merged h k q)));
-      held = subst (AllByRecursion (IsHeld (map slot_of rs))) (sym p.terms)
-          (held_terms (known_of store) clip rs (met_segments clip segments) (planned_in_order p) p.readable (all_met clip 0 segments) (λ h k q. groups_runs plan.merged h k ((p.merged.covers h k).1 q)));
-      bytes = s.bytes m (describes_map m store agree) ∙ same_bytes m store clip segments agree p.readable;
-    }

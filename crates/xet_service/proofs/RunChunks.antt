@@ -5,8 +5,7 @@ use Rattle.xet_plan.specs.declared.runs.MergedRange.{MergedRange}
 use Rattle.xet_plan.specs.Runs.{Covers, InGroups, Separated}
 use Rattle.xet_plan.specs.Merging.{Ranges, group_of, chunks_part}
 use Rattle.xet_plan.proofs.Order.{before-same}
-use Rattle.xet_service.specs.Links.{Run, run, group_runs, link_of, slot_of}
-use Rattle.xet_service.specs.Reads.{Before, InOrder}
+use Rattle.xet_service.proofs.PlanRuns.{Run, run, group_runs, link_of, Before, InOrder}
 use Rattle.xet_service.specs.Headline.{LinkHas, LinksHave, EachOnce}
 
 -- chunk k of the xorb is one of the run's
@@ -73,7 +72,7 @@ runs_groups (g ∷ gs) h k p = elim (have_cases (group_runs g) (flat_map group_r
 -- ---- each once
 
 -- runs that come after another begin past its end, under its hash
-pub later_past : (r : Run) (rs : List Run) (h : List ℕ) (k : ℕ) → AllByRecursion (Before (slot_of r)) (map slot_of rs) → r.hash ≡ h → RunsHave rs h k → r.range.chunk_range.end < k
+pub later_past : (r : Run) (rs : List Run) (h : List ℕ) (k : ℕ) → AllByRecursion (Before (r)) (rs) → r.hash ≡ h → RunsHave rs h k → r.range.chunk_range.end < k
 later_past r [] h k b e p = absurd p
 later_past r (s ∷ rs) h k b e (inl p) = elim b.0 as (λ _. r.range.chunk_range.end < k) [
   | inl q ↦ absurd (before-same r.hash s.hash q (e ∙ sym p.0))
@@ -81,7 +80,7 @@ later_past r (s ∷ rs) h k b e (inl p) = elim b.0 as (λ _. r.range.chunk_range
 ]
 later_past r (s ∷ rs) h k b e (inr p) = later_past r rs h k b.1 e p
 
-pub runs_once : (at : ℕ) (rs : List Run) → InOrder (map slot_of rs) → EachOnce (map (link_of at) rs)
+pub runs_once : (at : ℕ) (rs : List Run) → InOrder (rs) → EachOnce (map (link_of at) rs)
 runs_once at [] o = tt
 runs_once at (r ∷ rs) o = (
   λ h k p q.

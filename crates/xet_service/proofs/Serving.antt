@@ -1,95 +1,83 @@
 -- What the service's own calls leave.
-use Rattle.std.proofs.Common.{◌≡◌, ℕ, zero, suc, Bool, true, false, cond, List, [], ◌∷◌, map, Option, Some, None, Result, Ok, Err, IfOk, refl, sym, ap, subst, ◌∙◌}
-use Rattle.std.specs.List.{AllByRecursion}
+use Rattle.std.proofs.Common.{◌≡◌, ℕ, zero, suc, ◌+◌, ◌-◌, ◌<◌, Bool, true, false, cond, eqb, List, [], ◌∷◌, length, Option, Some, None, Result, Ok, Err, Ordering, refl, sym, ap, ◌∙◌, arith}
+use Rattle.std.specs.declared.cmp.Ordering.TheVariants.{Less, Equal, Greater}
 use Rattle.std.specs.Ordering.{nat_cmp, eq_by_cmp, is_eq}
 use Rattle.std.specs.Cmp.{tied_itself}
+use Rattle.std.proofs.lemmas.Bool.{eqb-true}
 use Rattle.std.proofs.lemmas.Cmp.{nat_cmp_total}
-use Rattle.std.specs.FinMap.{FinMap, get, insert, remove, get-insert, get-remove, nat_cmp-IsAntisymmetric, same_map}
+use Rattle.std.specs.FinMap.{get, insert, remove, get-insert, get-remove, nat_cmp-IsAntisymmetric, same_map}
+use Rattle.xet_types.specs.Faults.{refusal_of}
+use Rattle.xet_types.specs.Records.{FirstPlan, SecondPlan, second_of}
 use Rattle.xet_types.specs.declared.error.ClientError.{ClientError}
 use Rattle.xet_types.specs.declared.error.Refusal.{Refusal}
-use Rattle.xet_types.specs.Faults.{refusal_of}
-use Rattle.xet_plan.specs.Plans.{PlanModel}
-use Rattle.xet_plan.specs.Places.{Known, Interval}
-use Rattle.xet_plan.specs.Answers.{IsPlan}
-use Rattle.xet_shard.specs.declared.listing.Segment.{Segment}
+use Rattle.xet_types.specs.declared.error.Refusal.TheVariants.{FormatError, InvalidRange, InvalidArguments, FileNotFound, XORBNotFound, PresignedUrlExpirationError, IOError, Other, InvalidKey, CacheError, HttpStatus}
+use Rattle.xet_types.specs.declared.range.Range.{Range}
+use Rattle.xet_types.specs.declared.range._F.{_F}
 use Rattle.xet_store.specs.Answered.{Answered, AnsweredErr}
-use Rattle.xet_store.specs.StoreModel.{Chunks}
+use Rattle.xet_store.specs.StoreModel.{StoreModel}
+use Rattle.xet_store.specs.Responses.{Responds}
+use Rattle.xet_service.specs.declared.step.PlanVersion.TheVariants.{V1}
 use Rattle.xet_service.specs.declared.reply.CacheNote.{CacheNote}
-use Rattle.xet_service.specs.declared.reply.Reply.TheVariants.{Fetched, Finished}
-use Rattle.xet_service.specs.Links.{Run, slot_of, runs_of}
-use Rattle.xet_service.specs.Reads.{Read, HasChunks, taken, count_left, assembled}
-use Rattle.xet_service.specs.Wants.{TakesLast}
-use Rattle.xet_service.specs.World.{State}
-use Rattle.xet_service.specs.Steps.{no_note, fetch_done}
-use Rattle.xet_service.specs.Requests.{IsOpenAt, Ends, EndsAt}
-use Rattle.xet_service.proofs.RunChunks.{IsNonEmpty, runs_nonempty}
-use Rattle.xet_service.proofs.Numbered.{tied_is}
+use Rattle.xet_service.specs.declared.reply.PlannedLink.{PlannedLink}
+use Rattle.xet_service.specs.declared.reply.Reply.{Reply}
+use Rattle.xet_service.specs.declared.reply.Reply.TheVariants.{Done, Planned, Fetched, Finished}
+use Rattle.xet_service.specs.declared.read.OpenRead.{OpenRead}
+use Rattle.xet_service.specs.Links.{planned_links}
+use Rattle.xet_service.specs.Reading.{Reading, count_left, Accepts, Takes, bytes_if, bytes_read}
+use Rattle.xet_service.specs.ReadingPlans.{can_open, reading_of}
+use Rattle.xet_service.specs.World.{State, Reads, state}
+use Rattle.xet_service.specs.Steps.{Outcome, refuses, used_up, open_links, open_plan, PlansBy, Does, DoesErr, no_note, fetch_done, with_reader, abandon_step, abandon_read}
+use Rattle.xet_service.specs.Requests.{IsOpenAt, IsWantedAt, TakesAt}
+use Rattle.xet_service.proofs.ReaderLinks.{count_given}
+
+abbrev some_read : OpenRead → Option OpenRead
+some_read r = Some r
 
 -- ---- one read of several
+
+equal_is : (o : Ordering) → is_eq o ≡ true → o ≡ Equal
+equal_is Less e = absurd cc
+equal_is Equal e = refl
+equal_is Greater e = absurd cc
+
+pub tied_is : (q k : ℕ) → eq_by_cmp nat_cmp q k ≡ true → q ≡ k
+tied_is q k e = nat_cmp-IsAntisymmetric q k (equal_is (nat_cmp q k) e)
 
 cond_twice : {X : Type 0} (b : Bool) (x y z : X) → cond b x (cond b y z) ≡ cond b x z
 cond_twice true x y z = refl
 cond_twice false x y z = refl
 
-put_twice : (m : FinMap nat_cmp Read) (k : ℕ) (a b : Read) → insert (insert m k a) k b ≡ insert m k b
+put_twice : (m : Reads) (k : ℕ) (a b : OpenRead) → insert (insert m k a) k b ≡ insert m k b
 put_twice m k a b = same_map nat_cmp_total nat_cmp-IsAntisymmetric (insert (insert m k a) k b) (insert m k b) (λ q.
-    get-insert nat_cmp_total (insert m k a) k b q ∙ ap (λ (o : Option Read). cond (eq_by_cmp nat_cmp q k) (Some b) o) (get-insert nat_cmp_total m k a q)
+    get-insert nat_cmp_total (insert m k a) k b q ∙ ap (λ (o : Option OpenRead). cond (eq_by_cmp nat_cmp q k) (Some b) o) (get-insert nat_cmp_total m k a q)
     ∙ cond_twice (eq_by_cmp nat_cmp q k) (Some b) (Some a) (get m q) ∙ sym (get-insert nat_cmp_total m k b q))
 
-gone_put : (m : FinMap nat_cmp Read) (k : ℕ) (a : Read) → remove (insert m k a) k ≡ remove m k
+gone_put : (m : Reads) (k : ℕ) (a : OpenRead) → remove (insert m k a) k ≡ remove m k
 gone_put m k a = same_map nat_cmp_total nat_cmp-IsAntisymmetric (remove (insert m k a) k) (remove m k) (λ q.
-    get-remove nat_cmp_total (insert m k a) k q ∙ ap (λ (o : Option Read). cond (eq_by_cmp nat_cmp q k) None o) (get-insert nat_cmp_total m k a q)
+    get-remove nat_cmp_total (insert m k a) k q ∙ ap (λ (o : Option OpenRead). cond (eq_by_cmp nat_cmp q k) None o) (get-insert nat_cmp_total m k a q)
     ∙ cond_twice (eq_by_cmp nat_cmp q k) None (Some a) (get m q) ∙ sym (get-remove nat_cmp_total m k q))
 
-put_same : (m : FinMap nat_cmp Read) (k : ℕ) (v : Read) → get m k ≡ Some v → insert m k v ≡ m
+put_same : (m : Reads) (k : ℕ) (v : OpenRead) → get m k ≡ Some v → insert m k v ≡ m
 put_same m k v e = same_map nat_cmp_total nat_cmp-IsAntisymmetric (insert m k v) m (λ q. get-insert nat_cmp_total m k v q ∙ of q (eq_by_cmp nat_cmp q k) refl)
   where
     of : (q : ℕ) (b : Bool) → eq_by_cmp nat_cmp q k ≡ b → cond b (Some v) (get m q) ≡ get m q
     of q true t = sym (ap (get m) (tied_is q k t) ∙ e)
     of q false t = refl
 
-get_put : (m : FinMap nat_cmp Read) (k : ℕ) (a : Read) → get (insert m k a) k ≡ Some a
+gone_same : (m : Reads) (k : ℕ) → get m k ≡ None → remove m k ≡ m
+gone_same m k e = same_map nat_cmp_total nat_cmp-IsAntisymmetric (remove m k) m (λ q. get-remove nat_cmp_total m k q ∙ of q (eq_by_cmp nat_cmp q k) refl)
+  where
+    of : (q : ℕ) (b : Bool) → eq_by_cmp nat_cmp q k ≡ b → cond b None (get m q) ≡ get m q
+    of q true t = sym (ap (get m) (tied_is q k t) ∙ e)
+    of q false t = refl
+
+get_put : (m : Reads) (k : ℕ) (a : OpenRead) → get (insert m k a) k ≡ Some a
 get_put m k a =
     let here : eq_by_cmp nat_cmp k k ≡ true = ap is_eq (tied_itself nat_cmp_total k) in
     get-insert nat_cmp_total m k a k ∙ ap (λ (b : Bool). cond b (Some a) (get m k)) here
 
-pub open_there : (m : FinMap nat_cmp Read) (k : ℕ) (a : Read) (n : FinMap nat_cmp Read) → n ≡ insert m k a → IsOpenAt n k
-open_there m k a n e = (a, ap (λ (x : FinMap nat_cmp Read). get x k) e ∙ get_put m k a)
-
--- ---- the end of a fetch
-
-module _ (E : Type 0) (s : State) (read link wire : ℕ) (chunks : Chunks) (held other : Read) (opened : FinMap nat_cmp Read) (held_is : Some held ≡ get s.reads read) (opened_is : opened ≡ insert s.reads read other) where
-  pub more_ends : (after : Read) (left : ℕ) (note : CacheNote) (closed : FinMap nat_cmp Read) → after ≡ taken held link chunks → TakesLast (taken held link chunks) (count_left (taken held link chunks).slots) None
-      → left ≡ count_left after.slots → note ≡ no_note → closed ≡ insert opened read after → Ends {E = E} s read link wire chunks (Ok (Fetched read link left wire note)) (record s { reads = closed })
-  more_ends after left note closed after_is last left_is note_is closed_is =
-      subst (λ (o : Option Read). EndsAt {E = E} s read link wire chunks (Ok (Fetched read link left wire note)) (record s { reads = closed }) o) held_is
-      (of (count_left (taken held link chunks).slots) last (left_is ∙ ap (λ (r : Read). count_left r.slots) after_is))
-    where
-      put_it : closed ≡ insert s.reads read (taken held link chunks)
-      put_it = closed_is ∙ ap (λ (m : FinMap nat_cmp Read). insert m read after) opened_is ∙ put_twice s.reads read other after ∙ ap (λ (r : Read). insert s.reads read r) after_is
-
-      of : (k : ℕ) → TakesLast (taken held link chunks) k None → left ≡ k → fetch_done s read link wire (taken held link chunks) k ≡ (Ok (Fetched read link left wire note), record s { reads = closed })
-      of zero t e = absurd cc
-      of (suc k) t e = rw (e, note_is, put_it) refl
-
-  pub last_ends : (after : Read) (bytes : List ℕ) (note : CacheNote) (closed : FinMap nat_cmp Read) → TakesLast (taken held link chunks) (count_left (taken held link chunks).slots) (Some bytes)
-      → note ≡ no_note → closed ≡ remove opened read → Ends {E = E} s read link wire chunks (Ok (Finished read bytes wire note)) (record s { reads = closed })
-  last_ends after bytes note closed last note_is closed_is =
-      subst (λ (o : Option Read). EndsAt {E = E} s read link wire chunks (Ok (Finished read bytes wire note)) (record s { reads = closed }) o) held_is
-      (of (count_left (taken held link chunks).slots) last)
-    where
-      gone_it : closed ≡ remove s.reads read
-      gone_it = closed_is ∙ ap (λ (m : FinMap nat_cmp Read). remove m read) opened_is ∙ gone_put s.reads read other
-
-      of : (k : ℕ) → TakesLast (taken held link chunks) k (Some bytes) → fetch_done s read link wire (taken held link chunks) k ≡ (Ok (Finished read bytes wire note), record s { reads = closed })
-      of zero t = let b : bytes ≡ assembled (taken held link chunks) = cc in rw (b, note_is, gone_it) refl
-      of (suc k) t = absurd cc
-
-  pub none_ends : (after : Read) (error : E) (closed : FinMap nat_cmp Read) → after ≡ held → closed ≡ insert opened read after → Ends {E = E} s read link wire chunks (Err error) (record s { reads = closed })
-  none_ends after error closed after_is closed_is =
-      subst (λ (o : Option Read). EndsAt {E = E} s read link wire chunks (Err error) (record s { reads = closed }) o) held_is
-      (ap (λ (m : FinMap nat_cmp Read). record s { reads = m })
-      (closed_is ∙ ap (λ (m : FinMap nat_cmp Read). insert m read after) opened_is ∙ put_twice s.reads read other after ∙ ap (λ (r : Read). insert s.reads read r) after_is ∙ put_same s.reads read held (sym held_is)))
+pub open_there : (m : Reads) (k : ℕ) (a : OpenRead) (n : Reads) → n ≡ insert m k a → IsOpenAt n k
+open_there m k a n e = (a, ap (λ (x : Reads). get x k) e ∙ get_put m k a)
 
 -- ---- answers of calls, from those of the calls that they make
 
@@ -97,19 +85,179 @@ pub failed_so : {T U : Type 0} (P : Result T Refusal → Type 0) (R : Result U R
 failed_so P R (Some why) f g h = f why h
 failed_so P R None f g h = g h
 
-pub answered_so : {T : Type 0} (P R : Result T Refusal → Type 0) {Q S : Type 0} (r : Result T ClientError) → ((x : Result T Refusal) → P x → R x) → (Q → S) → Answered r P Q → Answered r R S
-answered_so P R (Ok x) f g h = f (Ok x) h
-answered_so P R (Err e) f g h = failed_so P R (refusal_of e) (λ why. f (Err why)) g h
+-- ---- the end of a fetch
 
-pub ok_so : {T E : Type 0} {P Q : T → Type 0} (r : Result T E) → ((x : T) → P x → Q x) → IfOk r P → IfOk r Q
-ok_so (Ok x) f h = f x h
-ok_so (Err e) f h = tt
+pub accepted_fewer : (old new : Reading) (n : ℕ) (content_type body : List ℕ) → Accepts old n content_type body (Ok tt) new → count_left new.links + 1 ≡ count_left old.links
+accepted_fewer old new n content_type body a =
+    ap (λ (r : Reading). count_left r.links + 1) a.1.1 ∙ count_given old.links old.links n content_type body a.0 refl a.1.0
 
--- ---- the links of a plan
+module _ (old : Reads) (read link : ℕ) (body : List ℕ) (held other : OpenRead) (opened : Reads) (held_is : Some held ≡ get old read) (opened_is : opened ≡ insert old read other) where
+  pub more_takes : (after : Reading) (left wire : ℕ) (note : CacheNote) (closed : Reads) → Takes held.reader link [] body (Ok None) after
+      → left ≡ count_left held.reader.links - 1 → wire ≡ length body → note ≡ no_note → closed ≡ insert opened read (with_reader held after) → TakesAt old read link body (Ok (Fetched read link left wire note)) closed
+  more_takes after left wire note closed takes left_is wire_is note_is closed_is =
+      (held, (sym held_is, record { answer = Ok tt; after = after; accepts = takes.0; step = of (count_left after.links) takes.1 (omega (arith, fewer, left_is)) }))
+    where
+      fewer : count_left after.links + 1 ≡ count_left held.reader.links
+      fewer = accepted_fewer held.reader after link [] body takes.0
 
-have_all : (rs : List Run) → AllByRecursion IsNonEmpty rs → AllByRecursion HasChunks (map slot_of rs)
-have_all [] h = tt
-have_all (r ∷ rs) h = (h.0, have_all rs h.1)
+      put_it : closed ≡ insert old read (with_reader held after)
+      put_it = closed_is ∙ ap (λ (m : Reads). insert m read (with_reader held after)) opened_is ∙ put_twice old read other (with_reader held after)
 
-pub planned_have : {known : Known} {segments : List Segment} {clip : Interval} {plan : PlanModel} → IsPlan known segments clip plan → AllByRecursion HasChunks (map slot_of (runs_of plan))
-planned_have {plan = plan} p = have_all (runs_of plan) (runs_nonempty plan.merged p.merged.runs)
+      of : (k : ℕ) → None ≡ bytes_if after k → left ≡ k → fetch_done old read link (length body) (with_reader held after) k ≡ (Ok (Fetched read link left wire note), closed)
+      of zero t e = absurd cc
+      of (suc k) t e = rw (e, wire_is, note_is, put_it) refl
+
+  pub last_takes : (after : Reading) (bytes : List ℕ) (wire : ℕ) (note : CacheNote) (closed : Reads) → Takes held.reader link [] body (Ok (Some bytes)) after
+      → wire ≡ length body → note ≡ no_note → closed ≡ remove opened read → TakesAt old read link body (Ok (Finished read bytes wire note)) closed
+  last_takes after bytes wire note closed takes wire_is note_is closed_is =
+      (held, (sym held_is, record { answer = Ok tt; after = after; accepts = takes.0; step = of (count_left after.links) takes.1 }))
+    where
+      gone_it : closed ≡ remove old read
+      gone_it = closed_is ∙ ap (λ (m : Reads). remove m read) opened_is ∙ gone_put old read other
+
+      of : (k : ℕ) → Some bytes ≡ bytes_if after k → fetch_done old read link (length body) (with_reader held after) k ≡ (Ok (Finished read bytes wire note), closed)
+      of zero t = let b : bytes ≡ bytes_read after = cc in rw (b, wire_is, note_is, gone_it) refl
+      of (suc k) t = absurd cc
+
+  pub same_again : (after : Reading) (closed : Reads) → after ≡ held.reader → closed ≡ insert opened read (with_reader held after) → closed ≡ old
+  same_again after closed same closed_is =
+      closed_is
+      ∙ ap (λ (m : Reads). insert m read (with_reader held after)) opened_is
+      ∙ put_twice old read other (with_reader held after)
+      ∙ ap (λ (r : Reading). insert old read (with_reader held r)) same
+      ∙ put_same old read held (sym held_is)
+
+  -- whatever the reader's refusal is, it is as it was
+  pub reader_same : (error : ClientError) (after : Reading) → Answered {T = Option (List ℕ)} (Err error) (λ r. Takes held.reader link [] body r after) (after ≡ held.reader) → after ≡ held.reader
+  reader_same error after h = of (refusal_of error) h
+    where
+      of : (o : Option Refusal) → AnsweredErr {T = Option (List ℕ)} o (λ r. Takes held.reader link [] body r after) (after ≡ held.reader) → after ≡ held.reader
+      of (Some why) g = g.1
+      of None g = g
+
+  pub none_takes : (error : ClientError) (after : Reading) (closed : Reads) → Answered {T = Option (List ℕ)} (Err error) (λ r. Takes held.reader link [] body r after) (after ≡ held.reader) → closed ≡ insert opened read (with_reader held after)
+      → Answered {T = Reply} (Err error) (λ r. TakesAt old read link body r closed) (closed ≡ old)
+  none_takes error after closed h closed_is =
+      failed_so (λ r. Takes held.reader link [] body r after) (λ r. TakesAt old read link body r closed) (refusal_of error)
+      (λ why g. (
+        held,
+        (
+          sym held_is,
+          record {
+            answer = Err why;
+            after = after;
+            accepts = g;
+            step = ap (λ (m : Reads). (Err why, m)) (sym (same_again after closed g.1 closed_is));
+          },
+        ),
+      ))
+      (λ same. same_again after closed same closed_is) h
+
+pub left_is : (reads : Reads) (read left : ℕ) (held : OpenRead) → Some held ≡ get reads read → IsWantedAt reads read left → left ≡ count_left held.reader.links - 1
+left_is reads read left held is w =
+    let there : Some held ≡ some_read w.0 = is ∙ w.1.0 in
+    let same : held ≡ w.0 = cc in
+    w.1.1 ∙ ap (λ (r : OpenRead). count_left r.reader.links - 1) (sym same)
+
+-- ---- plans
+
+links_open : (s : State) (plan : SecondPlan) (range : Option (Range ℕ _F)) (at : ℕ) (ls : List PlannedLink) → 0 < length ls → open_links s plan range at ls ≡ (Ok (Planned s.next V1 plan.offset_into_first_range plan.terms ls), record s { reads = insert s.reads s.next (record { reader = reading_of plan range; stamp = at }); next = s.next + 1 })
+links_open s plan range at [] lt = absurd (omega (arith, lt))
+links_open s plan range at (l ∷ ls) lt = refl
+
+pub free_is : (n : ℕ) → (n ≡ 18446744073709551615 → ⊥) → used_up n ≡ false
+free_is n other = of (used_up n) refl
+  where
+    of : (b : Bool) → used_up n ≡ b → b ≡ false
+    of true e = absurd (other (eqb-true n 18446744073709551615 e))
+    of false e = refl
+
+pub some_of : {X : Type 0} (xs : List X) (empty : Bool) → empty ≡ eqb (length xs) 0 → empty ≡ false → 0 < length xs
+some_of [] empty is not = let f : true ≡ false = sym is ∙ not in absurd cc
+some_of (x ∷ xs) empty is not = omega arith
+
+pub opens : (s : State) (plan : SecondPlan) (range : Option (Range ℕ _F)) (at : ℕ) (links : List PlannedLink) (reader : Reading) (reads : Reads) → used_up s.next ≡ false → (can_open plan ≡ true) × (reader ≡ reading_of plan range) → links ≡ planned_links plan → 0 < length links
+    → reads ≡ insert s.reads s.next (record { reader = reader; stamp = at }) → open_plan s plan range at ≡ (Ok (Planned s.next V1 plan.offset_into_first_range plan.terms links), record s { reads = reads; next = s.next + 1 })
+opens s plan range at links reader reads free can is some put =
+    ap (λ (b : Bool). cond b (refuses s InvalidArguments) (cond (can_open plan) (open_links s plan range at (planned_links plan)) (refuses s InvalidArguments))) free
+    ∙ ap (λ (b : Bool). cond b (open_links s plan range at (planned_links plan)) (refuses s InvalidArguments)) can.0
+    ∙ ap (open_links s plan range at) (sym is)
+    ∙ links_open s plan range at links some
+    ∙ ap (λ (m : Reads). (Ok (Planned s.next V1 plan.offset_into_first_range plan.terms links), record s { reads = m; next = s.next + 1 })) (sym (put ∙ ap (λ (r : Reading). insert s.reads s.next (record { reader = r; stamp = at })) can.1))
+
+abbrev ok_reply : Reply → Result Reply Refusal
+ok_reply reply = Ok reply
+
+-- a refusal leaves the state
+links_err : (s t : State) (plan : SecondPlan) (range : Option (Range ℕ _F)) (at : ℕ) (why : Refusal) (ls : List PlannedLink) → open_links s plan range at ls ≡ (Err why, t) → t ≡ s
+links_err s t plan range at why [] e = let f : ok_reply (Finished s.next [] 0 no_note) ≡ Err why = ap (λ (o : Outcome). o.0) e in absurd cc
+links_err s t plan range at why (l ∷ ls) e = let f : ok_reply (Planned s.next V1 plan.offset_into_first_range plan.terms (l ∷ ls)) ≡ Err why = ap (λ (o : Outcome). o.0) e in absurd cc
+
+pub open_err : (s t : State) (plan : SecondPlan) (range : Option (Range ℕ _F)) (at : ℕ) (why : Refusal) → open_plan s plan range at ≡ (Err why, t) → t ≡ s
+open_err s t plan range at why e = of (used_up s.next) (can_open plan) e
+  where
+    of : (b c : Bool) → cond b (refuses s InvalidArguments) (cond c (open_links s plan range at (planned_links plan)) (refuses s InvalidArguments)) ≡ (Err why, t) → t ≡ s
+    of true c h = sym (ap (λ (o : Outcome). o.1) h)
+    of false true h = links_err s t plan range at why (planned_links plan) h
+    of false false h = sym (ap (λ (o : Outcome). o.1) h)
+
+module _ (m : StoreModel) (reads reads_after : Reads) (next next_after : ℕ) (file : List ℕ) (range : Option (Range ℕ _F)) (at : ℕ) (first : FirstPlan) (responds : Responds m file range at (Ok (Some first))) where
+  abbrev Opens : Result Reply Refusal → Type 0
+  Opens r = open_plan (state m reads next) (second_of first) range at ≡ (r, state m reads_after next_after)
+
+  by : (r : Result Reply Refusal) → Opens r → PlansBy (state m reads next) file range at r (state m reads_after next_after)
+  by r h = record { answer = Ok (Some first); responds = responds; step = h }
+
+  err_does : (o : Option Refusal) → AnsweredErr o Opens (state m reads_after next_after ≡ state m reads next) → DoesErr (PlansBy (state m reads next) file range at) (state m reads next) o (state m reads_after next_after)
+  err_does None h = h
+  err_does (Some IOError) h = open_err (state m reads next) (state m reads_after next_after) (second_of first) range at IOError h
+  err_does (Some (FormatError f)) h = by (Err (FormatError f)) h
+  err_does (Some InvalidRange) h = by (Err InvalidRange) h
+  err_does (Some InvalidArguments) h = by (Err InvalidArguments) h
+  err_does (Some (FileNotFound f)) h = by (Err (FileNotFound f)) h
+  err_does (Some (XORBNotFound f)) h = by (Err (XORBNotFound f)) h
+  err_does (Some PresignedUrlExpirationError) h = by (Err PresignedUrlExpirationError) h
+  err_does (Some Other) h = by (Err Other) h
+  err_does (Some InvalidKey) h = by (Err InvalidKey) h
+  err_does (Some CacheError) h = by (Err CacheError) h
+  err_does (Some (HttpStatus n)) h = by (Err (HttpStatus n)) h
+
+  pub plan_does : (result : Result Reply ClientError) → Answered result Opens (state m reads_after next_after ≡ state m reads next) → Does (PlansBy (state m reads next) file range at) (state m reads next) result (state m reads_after next_after)
+  plan_does (Ok reply) h = by (Ok reply) h
+  plan_does (Err e) h = err_does (refusal_of e) h
+
+-- ---- abandoned reads
+
+pub abandons : (s : State) (read : ℕ) (r : OpenRead) (reads : Reads) → Some r ≡ get s.reads read → reads ≡ remove s.reads read → abandon_step s read ≡ (Ok Done, record s { reads = reads })
+abandons s read r reads there gone = ap (abandon_read s read) (sym there) ∙ ap (λ (m : Reads). (Ok Done, record s { reads = m })) (sym gone)
+
+pub none_gone : (old new : Reads) (read : ℕ) → None ≡ get old read → new ≡ remove old read → new ≡ old
+none_gone old new read gone removed = removed ∙ gone_same old read (sym gone)
+
+pub abandons_none : (s : State) (read : ℕ) (reads : Reads) → None ≡ get s.reads read → reads ≡ remove s.reads read → abandon_step s read ≡ (Err InvalidArguments, record s { reads = reads })
+abandons_none s read reads gone removed =
+    ap (abandon_read s read) (sym gone) ∙ ap (λ (m : Reads). (Err InvalidArguments, record s { reads = m })) (sym (none_gone s.reads reads read gone removed))
+
+-- an abandonment's answer
+pub abandon_does : (m : StoreModel) (reads reads_after : Reads) (next next_after read : ℕ) (result : Result Reply ClientError) → Answered result (λ r. abandon_step (state m reads next) read ≡ (r, state m reads_after next_after)) ⊥
+    → Does (λ r s. abandon_step (state m reads next) read ≡ (r, s)) (state m reads next) result (state m reads_after next_after)
+abandon_does m reads reads_after next next_after read (Ok reply) h = h
+abandon_does m reads reads_after next next_after read (Err e) h = of (refusal_of e) h
+  where
+    no_failure : (o : Option OpenRead) → abandon_read (state m reads next) read o ≡ (Err IOError, state m reads_after next_after) → state m reads_after next_after ≡ state m reads next
+    no_failure None g = let f : ◌≡◌ {A = Result Reply Refusal} (Err InvalidArguments) (Err IOError) = ap (λ (o : Outcome). o.0) g in absurd cc
+    no_failure (Some r) g = let f : ok_reply Done ≡ Err IOError = ap (λ (o : Outcome). o.0) g in absurd cc
+
+    of : (o : Option Refusal) → AnsweredErr o (λ r. abandon_step (state m reads next) read ≡ (r, state m reads_after next_after)) ⊥ → DoesErr (λ r s. abandon_step (state m reads next) read ≡ (r, s)) (state m reads next) o (state m reads_after next_after)
+    of None g = absurd g
+    of (Some IOError) g = no_failure (get reads read) g
+    of (Some (FormatError f)) g = g
+    of (Some InvalidRange) g = g
+    of (Some InvalidArguments) g = g
+    of (Some (FileNotFound f)) g = g
+    of (Some (XORBNotFound f)) g = g
+    of (Some PresignedUrlExpirationError) g = g
+    of (Some Other) g = g
+    of (Some InvalidKey) g = g
+    of (Some CacheError) g = g
+    of (Some (HttpStatus n)) g = g

@@ -1,367 +1,172 @@
--- Valid reads succeed.
-use Rattle.std.proofs.Common.{◌≡◌, ℕ, zero, suc, ◌<◌, ◌≤◌, true, false, Bool, cond, eqb, eq-eqb, List, [], ◌∷◌, length, map, set, slice_range, Option, Some, None, Result, Ok, Err, refl, sym, ap, subst, ◌∙◌, arith, ◌⊎◌, inl, inr}
-use Rattle.std.proofs.lemmas.Bool.{eqb-true, lt-ltb, le-leb}
-use Rattle.std.proofs.lemmas.Cmp.{eq_by_cmp_equiv}
-use Rattle.std.specs.Prelude.{slice_get}
-use Rattle.std.specs.Ordering.{nat_cmp, eq_by_cmp}
-use Rattle.std.specs.FinMap.{FinMap, get, insert, remove, get-insert, get-remove}
-use Rattle.std.specs.Cmp.{nat_cmp_total}
+-- A valid read's steps all succeed.
+use Rattle.std.proofs.Common.{◌≡◌, ◌∙◌, ℕ, zero, suc, ◌+◌, ◌⊎◌, true, false, Bool, cond, List, [], ◌∷◌, length, map, set, Option, Some, None, Result, Ok, Err, refl, sym, ap, subst, arith, inl, inr}
+use Rattle.std.specs.Prelude.{slice_get, is_none}
+use Rattle.std.specs.Ordering.{is_eq}
+use Rattle.std.specs.Cmp.{tied_itself}
+use Rattle.std.proofs.lemmas.Cmp.{nat_cmp_total}
+use Rattle.std.specs.FinMap.{get, insert, get-insert}
+use Rattle.std.proofs.lemmas.List.Sums.{sum_by-cons}
 use Rattle.xet_types.specs.declared.error.Refusal.{Refusal}
-use Rattle.xet_types.specs.declared.error.Refusal.TheVariants.{FormatError, InvalidRange, InvalidArguments, FileNotFound, XORBNotFound, PresignedUrlExpirationError, IOError, Other, InvalidKey, CacheError, HttpStatus}
-use Rattle.xet_types.specs.declared.error.FormatFault.TheVariants as faults
-use Rattle.xet_types.specs.declared.range.Range.{Range}
-use Rattle.xet_types.specs.declared.range._F.{_F}
-use Rattle.xet_types.specs.declared.record.XorbReconstructionTerm.{XorbReconstructionTerm}
-use Rattle.xet_shard.specs.declared.listing.Segment.{Segment}
-use Rattle.xet_plan.specs.Places.{first_fault}
-use Rattle.xet_plan.specs.declared.place.Reach.{Reach}
-use Rattle.xet_plan.specs.declared.place.Reach.TheVariants.{Within}
+use Rattle.xet_types.specs.declared.record.XorbRangeDescriptor.{XorbRangeDescriptor}
+use Rattle.xet_xorb.specs.XorbBytes.{xorb_text}
 use Rattle.xet_plan.specs.FileBytes.{Content}
-use Rattle.xet_plan.specs.Plans.{PlanModel}
-use Rattle.xet_store.specs.StoreModel.{StoreModel, Chunks, stored, known_of}
-use Rattle.xet_store.specs.Plans.{Serves, PlansListed, PlansReached, PlansWithin}
-use Rattle.xet_store.specs.Cuts.{cut_of, cut_in}
-use Rattle.xet_service.specs.declared.step.Act.{Act}
-use Rattle.xet_service.specs.declared.step.Act.TheVariants.{UploadXorb, UploadShard, Plan, Fetch}
-use Rattle.xet_service.specs.declared.step.PlanVersion.{PlanVersion}
-use Rattle.xet_service.specs.declared.step.PlanVersion.TheVariants.{V1}
+use Rattle.xet_store.specs.StoreModel.{Chunks, stored}
 use Rattle.xet_service.specs.declared.reply.PlannedLink.{PlannedLink}
-use Rattle.xet_service.specs.declared.reply.Reply.{Reply}
-use Rattle.xet_service.specs.declared.reply.Reply.TheVariants.{Planned, Fetched, Finished}
-use Rattle.xet_service.specs.declared.slots.Slot.{Slot}
-use Rattle.xet_service.specs.Links.{Run, link_of, links_of, slot_of, runs_of}
-use Rattle.xet_service.specs.Reads.{Read, read_of, is_left, left_slot, take_slot, taken, count_left, assembled}
-use Rattle.xet_service.specs.World.{State}
-use Rattle.xet_service.specs.Steps.{Outcome, refuses, no_note, opened, open_links, plan_step, wire_of, fetch_done, fetch_ends, fetch_cut, fetch_slot, fetch_read, fetch_step, PlansBy, Acts}
-use Rattle.xet_service.specs.Runs.{World, Event, IsStep, Chain, outcome_of}
-use Rattle.xet_service.specs.Validity.{AgreesWith, IsAgreed, IsServed, IsFetched, ValidAt, IsValidRest, left_after, count_true, Answered, AnsweredAt, AnsweredRest, all_left, ReadsSucceed}
-use Rattle.xet_service.specs.Headline.{NoneOpen}
-use Rattle.xet_service.proofs.Goods.{GoodSlot, Goods}
-use Rattle.xet_service.proofs.Fetched.{some_is, left_good}
-use Rattle.xet_service.proofs.Outcomes.{plan_by, fetch_by, reply_is, first_is, second_is}
-use Rattle.xet_service.proofs.Kept.{PlanFacts, same_number, good_found, event_steps, none_good}
-
--- ---- maps by number
-
-apart_number : (n k : ℕ) → (n ≡ k → ⊥) → eq_by_cmp nat_cmp n k ≡ false
-apart_number n k apart = of (eq_by_cmp nat_cmp n k) refl
-  where
-    of : (b : Bool) → eq_by_cmp nat_cmp n k ≡ b → b ≡ false
-    of true e = absurd (apart (same_number n k e))
-    of false e = refl
-
-put_here : (reads : FinMap nat_cmp Read) (n : ℕ) (x : Read) → get (insert reads n x) n ≡ Some x
-put_here reads n x = get-insert nat_cmp_total reads n x n ∙ ap (λ (b : Bool). cond b (Some x) (get reads n)) ((eq_by_cmp_equiv nat_cmp_total).refl n)
-
-put_other : (reads : FinMap nat_cmp Read) (k n : ℕ) (x : Read) → (n ≡ k → ⊥) → get (insert reads k x) n ≡ get reads n
-put_other reads k n x apart = get-insert nat_cmp_total reads k x n ∙ ap (λ (b : Bool). cond b (Some x) (get reads n)) (apart_number n k apart)
-
-drop_other : (reads : FinMap nat_cmp Read) (k n : ℕ) → (n ≡ k → ⊥) → get (remove reads k) n ≡ get reads n
-drop_other reads k n apart = get-remove nat_cmp_total reads k n ∙ ap (λ (b : Bool). cond b None (get reads n)) (apart_number n k apart)
-
--- ---- a read that a step doesn't name stays
-
-abbrev NotNames : ℕ → Act → Type 0
-NotNames n (Fetch read link) = read ≡ n → ⊥
-NotNames n act = Unit {0}
-
-module _ (old : State) (at : ℕ) (reply : Reply) (new : State) (n : ℕ) (x : Read) (given : n < old.next) (found : get old.reads n ≡ Some x) where
-  abbrev Found : Type 0
-  Found = get new.reads n ≡ Some x
-
-  -- the outcome leaves it
-  abbrev LeavesIt : Outcome → Type 0
-  LeavesIt o = get o.1.reads n ≡ Some x
-
-  from_reads : new.reads ≡ old.reads → Found
-  from_reads e = ap (λ (rs : FinMap nat_cmp Read). get rs n) e ∙ found
-
-  by_outcome : (o : Outcome) → LeavesIt o → o ≡ (outcome_of reply, new) → Found
-  by_outcome o l h = ap (λ (s : State). get s.reads n) (second_is o (outcome_of reply) new h) ∙ l
-
-  stays : (act : Act) → NotNames n act → Acts old at act (outcome_of reply) new → Found
-  stays (UploadXorb hash content) no_name h = from_reads (ap (λ (s : State). s.reads) h.rest)
-  stays (UploadShard content) no_name h = from_reads (ap (λ (s : State). s.reads) h.rest)
-  stays (Plan version file range) no_name h = by_outcome _ (plan_by LeavesIt old range at h.answer (record {
-    refused = λ e. found;
-    no_plan = found;
-    empty = λ plan is none. found;
-    planned = λ plan l ls is links. put_other old.reads old.next n (read_of plan range at) (λ e. omega (arith, given, e)) ∙ found;
-  })) h.step
-  stays (Fetch read link) no_name h = by_outcome _ (fetch_by LeavesIt old read link (λ e. found) (λ r slot chunks v. ends slot (taken r link chunks) (count_left (taken r link chunks).slots))) h
-    where
-      ends : (slot : Slot) (r : Read) (left : ℕ) → LeavesIt (fetch_done old read link (wire_of slot) r left)
-      ends slot r zero = drop_other old.reads read n (λ e. no_name (sym e)) ∙ found
-      ends slot r (suc left) = put_other old.reads read n r (λ e. no_name (sym e)) ∙ found
+use Rattle.xet_service.specs.declared.reply.Reply.TheVariants.{Fetched, Finished}
+use Rattle.xet_service.specs.declared.read.OpenRead.{OpenRead}
+use Rattle.xet_service.specs.declared.reader.link.ReadLink.{ReadLink}
+use Rattle.xet_service.specs.Reading.{Reading, left_link, left_one, count_left, with_got, take_link, only_range, IsOne, BringsPlain, Brings, BringsTo, Accepts, bytes_read}
+use Rattle.xet_service.specs.World.{State, Reads}
+use Rattle.xet_service.specs.Steps.{ReadsOutcome, no_note, fetch_done, fetch_taken, with_reader, TakesBody, FetchesBody, FetchesRange, FetchesIf, FetchesLink, FetchesRead, Fetches, is_expired}
+use Rattle.xet_service.specs.Runs.{Event, outcome_of}
+use Rattle.xet_service.specs.Validity.{AgreesWith, IsFetched, Answered, count_true}
+use Rattle.xet_service.proofs.Keeping.{reply_is}
+use Rattle.xet_service.proofs.Goods.{GoodLink, IsGoodAt, GoodAt, Goods, cut_chunks}
+use Rattle.xet_service.proofs.Taken.{some_is, left_good}
+use Rattle.xet_service.proofs.Stepping.{no_parts}
+use Rattle.xet_service.proofs.Served.{is_there, never_refused}
 
 -- ---- which links are left
 
-pub record MaskedSlot (ss : List Slot) (n : ℕ) : Type 0 where
-  pub slot : Slot
-  pub left : left_slot ss n ≡ Some slot
-  pub is : slice_get ss n ≡ Some slot
+abbrev pub is_open : ReadLink → Bool
+is_open l = is_none l.got
 
-mask_slot : (ss : List Slot) (left : List Bool) (n : ℕ) → map is_left ss ≡ left → slice_get left n ≡ Some true → MaskedSlot ss n
-mask_slot ss left n is found = of ss n (subst (λ (bs : List Bool). slice_get bs n ≡ Some true) (sym is) found)
-  where
-    of : (ss : List Slot) (n : ℕ) → slice_get (map is_left ss) n ≡ Some true → MaskedSlot ss n
-    of [] n e = absurd cc
-    of (s ∷ ss) zero e = record { slot = s; left = ap (λ (b : Bool). cond b (Some s) None) (some_is (is_left s) true e); is = refl }
-    of (s ∷ ss) (suc n) e = let m = of ss n e in record { slot = m.slot; left = m.left; is = m.is }
+abbrev pub hash_of : ReadLink → List ℕ
+hash_of l = l.hash
 
-mask_take : (ss : List Slot) (n : ℕ) (c : Chunks) → map is_left (take_slot ss n c) ≡ set (map is_left ss) n false
-mask_take [] n c = refl
-mask_take (s ∷ ss) zero c = refl
-mask_take (s ∷ ss) (suc n) c = ap (λ (bs : List Bool). is_left s ∷ bs) (mask_take ss n c)
-
-mask_count : (ss : List Slot) → count_left ss ≡ count_true (map is_left ss)
-mask_count [] = refl
-mask_count (s ∷ ss) = of (is_left s) (mask_count ss)
-  where
-    of : (b : Bool) → count_left ss ≡ count_true (map is_left ss) → cond b (suc (count_left ss)) (count_left ss) ≡ count_true (b ∷ map is_left ss)
-    of true e = ap suc e
-    of false e = e
-
-abbrev slot_hash : Slot → List ℕ
-slot_hash s = s.hash
-
-abbrev link_hash : PlannedLink → List ℕ
+abbrev pub link_hash : PlannedLink → List ℕ
 link_hash l = l.hash
 
-take_hashes : (ss : List Slot) (n : ℕ) (c : Chunks) → map slot_hash (take_slot ss n c) ≡ map slot_hash ss
-take_hashes [] n c = refl
-take_hashes (s ∷ ss) zero c = refl
-take_hashes (s ∷ ss) (suc n) c = ap (λ (hs : List (List ℕ)). s.hash ∷ hs) (take_hashes ss n c)
+pub mask_take : (ls : List ReadLink) (n : ℕ) (got : List Chunks) → map is_open (with_got ls n (slice_get ls n) got) ≡ set (map is_open ls) n false
+mask_take [] n got = refl
+mask_take (x ∷ ls) zero got = refl
+mask_take (x ∷ ls) (suc n) got = of (slice_get ls n) (mask_take ls n got)
+  where
+    of : (o : Option ReadLink) → map is_open (with_got ls n o got) ≡ set (map is_open ls) n false → map is_open (with_got (x ∷ ls) (suc n) o got) ≡ is_open x ∷ set (map is_open ls) n false
+    of None e = ap (λ (bs : List Bool). is_open x ∷ bs) e
+    of (Some y) e = ap (λ (bs : List Bool). is_open x ∷ bs) e
+
+pub take_hashes : (ls : List ReadLink) (n : ℕ) (got : List Chunks) → map hash_of (with_got ls n (slice_get ls n) got) ≡ map hash_of ls
+take_hashes [] n got = refl
+take_hashes (x ∷ ls) zero got = refl
+take_hashes (x ∷ ls) (suc n) got = of (slice_get ls n) (take_hashes ls n got)
+  where
+    of : (o : Option ReadLink) → map hash_of (with_got ls n o got) ≡ map hash_of ls → map hash_of (with_got (x ∷ ls) (suc n) o got) ≡ x.hash ∷ map hash_of ls
+    of None e = refl
+    of (Some y) e = ap (λ (hs : List (List ℕ)). x.hash ∷ hs) e
+
+-- the link of a place that is left
+pub record MaskedLink (ls : List ReadLink) (n : ℕ) : Type 0 where
+  pub link : ReadLink
+  pub left : left_link ls n ≡ Some link
+  pub is : slice_get ls n ≡ Some link
+
+pub mask_link : (ls : List ReadLink) (left : List Bool) (n : ℕ) → map is_open ls ≡ left → slice_get left n ≡ Some true → MaskedLink ls n
+mask_link ls left n is found = of ls n (subst (λ (bs : List Bool). slice_get bs n ≡ Some true) (sym is) found)
+  where
+    of : (ls : List ReadLink) (n : ℕ) → slice_get (map is_open ls) n ≡ Some true → MaskedLink ls n
+    of [] n e = absurd cc
+    of (x ∷ ls) zero e = record { link = x; left = ap (λ (b : Bool). cond b (Some x) None) (some_is (is_open x) true e); is = refl }
+    of (x ∷ ls) (suc n) e = let k = of ls n e in record { link = k.link; left = k.left; is = k.is }
 
 get_map : {X : Type 0} (f : X → List ℕ) (xs : List X) (n : ℕ) (x : X) → slice_get xs n ≡ Some x → slice_get (map f xs) n ≡ Some (f x)
 get_map f [] n x e = absurd cc
 get_map f (y ∷ xs) zero x e = ap (λ (z : _). Some (f z)) (some_is y x e)
 get_map f (y ∷ xs) (suc n) x e = get_map f xs n x e
 
-same_hash_at : (ss : List Slot) (ls : List PlannedLink) (n : ℕ) (s : Slot) (l : PlannedLink) → map slot_hash ss ≡ map link_hash ls → slice_get ss n ≡ Some s → slice_get ls n ≡ Some l → s.hash ≡ l.hash
-same_hash_at ss ls n s l is a b =
-    some_is s.hash l.hash (sym (get_map slot_hash ss n s a) ∙ ap (λ (hs : List (List ℕ)). slice_get hs n) is ∙ get_map link_hash ls n l b)
+pub same_hash_at : (ls : List ReadLink) (ps : List PlannedLink) (n : ℕ) (l : ReadLink) (p : PlannedLink) → map hash_of ls ≡ map link_hash ps → slice_get ls n ≡ Some l → slice_get ps n ≡ Some p → l.hash ≡ p.hash
+same_hash_at ls ps n l p is a b = some_is l.hash p.hash (sym (get_map hash_of ls n l a) ∙ ap (λ (hs : List (List ℕ)). slice_get hs n) is ∙ get_map link_hash ps n p b)
 
-none_left : (bs : List Bool) (n : ℕ) → count_true bs ≡ 0 → slice_get bs n ≡ Some true → ⊥
-none_left [] n e h = absurd cc
-none_left (true ∷ bs) n e h = absurd (omega (arith, e))
-none_left (false ∷ bs) zero e h = absurd cc
-none_left (false ∷ bs) (suc n) e h = none_left bs n e h
+pub mask_count : (ls : List ReadLink) → count_left ls ≡ count_true (map is_open ls)
+mask_count [] = refl
+mask_count (x ∷ ls) = let sums = sum_by-cons left_one x ls in of (is_open x) (mask_count ls) sums
+  where
+    of : (b : Bool) → count_left ls ≡ count_true (map is_open ls) → count_left (x ∷ ls) ≡ cond b 1 0 + count_left ls → count_left (x ∷ ls) ≡ count_true (b ∷ map is_open ls)
+    of true e s = omega (arith, e, s)
+    of false e s = omega (arith, e, s)
 
 -- ---- a read that is followed
 
 -- the read is open, and these links are left
-pub record IsOpen (s : State) (n : ℕ) (links : List PlannedLink) (left : List Bool) : Type 0 where
-  pub read : Read
+pub record IsOpen (s : State) (n stamp : ℕ) (links : List PlannedLink) (left : List Bool) : Type 0 where
+  pub read : OpenRead
   pub found : get s.reads n ≡ Some read
-  pub mask : map is_left read.slots ≡ left
-  pub hashes : map slot_hash read.slots ≡ map link_hash links
+  pub stamped : read.stamp ≡ stamp
+  pub mask : map is_open read.reader.links ≡ left
+  pub hashes : map hash_of read.reader.links ≡ map link_hash links
 
 -- it is open, or none is left
-abbrev Follows : State → ℕ → List PlannedLink → List Bool → Type 0
-Follows s n links left = IsOpen s n links left ⊎ (count_true left ≡ 0)
+abbrev pub Follows : State → ℕ → ℕ → List PlannedLink → List Bool → Type 0
+Follows s n stamp links left = IsOpen s n stamp links left ⊎ (count_true left ≡ 0)
 
-stays_open : (m : Content) (w : World) (at : ℕ) (reply : Reply) (new : State) (act : Act) (n : ℕ) (links : List PlannedLink) (left : List Bool) → Goods m w → NotNames n act → Acts w.state at act (outcome_of reply) new
-    → Follows w.state n links left → Follows new n links left
-stays_open m w at reply new act n links left good other acts (inl o) =
-    inl (record { read = o.read; found = stays w.state at reply new n o.read (good_found m w n o.read good o.found).0 o.found act other acts; mask = o.mask; hashes = o.hashes })
-stays_open m w at reply new act n links left good other acts (inr e) = inr e
-
-cut_there : (m : Content) (store : StoreModel) (slot : Slot) (chunks : Chunks) → AgreesWith m store → GoodSlot m slot → stored store slot.hash ≡ Some chunks
-    → cut_of store slot.hash slot.range.chunk_range.start slot.range.chunk_range.end ≡ Ok (slice_range chunks slot.range.chunk_range.start slot.range.chunk_range.end)
-cut_there m store slot chunks agree good is =
-    let start = slot.range.chunk_range.start in
-    let end = slot.range.chunk_range.end in
-    let same : good.chunks ≡ chunks = some_is good.chunks chunks (sym good.is ∙ agree slot.hash chunks is) in
-    let within : end ≤ length chunks = subst (λ (c : Chunks). end ≤ length c) same good.inside in
-    ap (cut_in slot.hash start end) is ∙ rw (lt-ltb start end good.some, le-leb end (length chunks) within) refl
+pub put_here : (reads : Reads) (n : ℕ) (x : OpenRead) → get (insert reads n x) n ≡ Some x
+put_here reads n x = get-insert nat_cmp_total reads n x n ∙ ap (λ (b : Bool). cond b (Some x) (get reads n)) (ap is_eq (tied_itself nat_cmp_total n))
 
 -- what a fetch of a left link comes to
-pub record FetchGoes (e : Event) (n : ℕ) (links : List PlannedLink) (left : List Bool) (link : ℕ) : Type 0 where
+pub record FetchGoes (e : Event) (n stamp : ℕ) (links : List PlannedLink) (left : List Bool) (link : ℕ) : Type 0 where
   pub answered : Answered n link (count_true (set left link false)) e.reply
-  pub follows : Follows e.after.state n links (set left link false)
+  pub follows : Follows e.after.state n stamp links (set left link false)
 
-module _ (e : Event) (n : ℕ) (links : List PlannedLink) (left : List Bool) (link : ℕ) where
-  done_goes : (r : Read) (slot : Slot) (chunks : Chunks) → map is_left (take_slot r.slots link chunks) ≡ set left link false → map slot_hash (take_slot r.slots link chunks) ≡ map link_hash links
-      → (k : ℕ) → count_true (set left link false) ≡ k → fetch_done e.before.state n link (wire_of slot) (taken r link chunks) k ≡ (outcome_of e.reply, e.after.state) → FetchGoes e n links left link
-  done_goes r slot chunks masked hashes zero count h = record {
-    answered = subst (λ (k : ℕ). Answered n link k e.reply) (sym count) (record {
-      bytes = assembled (taken r link chunks);
-      wire = wire_of slot;
-      is = reply_is e.reply (Finished n (assembled (taken r link chunks)) (wire_of slot) no_note) (first_is _ (outcome_of e.reply) e.after.state h);
-    });
-    follows = inr count;
-  }
-  done_goes r slot chunks masked hashes (suc k) count h = record {
-    answered = subst (λ (j : ℕ). Answered n link j e.reply) (sym count) (record {
-      wire = wire_of slot;
-      is = reply_is e.reply (Fetched n link (suc k) (wire_of slot) no_note) (first_is _ (outcome_of e.reply) e.after.state h);
-    });
-    follows = inl (record {
-      read = taken r link chunks;
-      found = ap (λ (t : State). get t.reads n) (second_is _ (outcome_of e.reply) e.after.state h) ∙ put_here e.before.state.reads n (taken r link chunks);
-      mask = masked;
-      hashes = hashes;
-    });
-  }
+module _ (m : Content) (e : Event) (n stamp : ℕ) (links : List PlannedLink) (left : List Bool) (link : ℕ) (agree : AgreesWith m e.before.state.store) (good : Goods m e.before) (valid : IsFetched e stamp links left link) (o : IsOpen e.before.state n stamp links left) where
+  abbrev r : OpenRead
+  r = o.read
 
-  fetch_goes : (m : Content) → IsStep e → AgreesWith m e.before.state.store → Goods m e.before → e.step.act ≡ Fetch n link → IsFetched e links left link → IsOpen e.before.state n links left → FetchGoes e n links left link
-  fetch_goes m is agree good act_is valid open_it =
-      let s = e.before.state in
-      let r = open_it.read in
-      let slot = mask_slot r.slots left link open_it.mask valid.left_it in
-      let g = good_found m e.before n r good open_it.found in
-      let hash : slot.slot.hash ≡ valid.planned.hash = same_hash_at r.slots links link slot.slot valid.planned open_it.hashes slot.is valid.is in
-      let there : stored s.store slot.slot.hash ≡ Some valid.chunks = ap (stored s.store) hash ∙ valid.there in
-      let chunks = slice_range valid.chunks slot.slot.range.chunk_range.start slot.slot.range.chunk_range.end in
-      let cut_it = cut_there m s.store slot.slot valid.chunks agree (left_good m r.slots link slot.slot g.1.slots slot.left) there in
-      let steps : fetch_step s n link ≡ fetch_ends s n link r slot.slot chunks
-      = ap (fetch_read s n link) open_it.found ∙ ap (fetch_slot s n link r) slot.left ∙ ap (fetch_cut s n link r slot.slot) cut_it in
-      let acts : fetch_step s n link ≡ (outcome_of e.reply, e.after.state) = subst (λ (a : Act). Acts s e.step.at a (outcome_of e.reply) e.after.state) act_is is.steps in
-      let masked : map is_left (take_slot r.slots link chunks) ≡ set left link false = mask_take r.slots link chunks ∙ ap (λ (bs : List Bool). set bs link false) open_it.mask in
-      let counted : count_left (take_slot r.slots link chunks) ≡ count_true (set left link false) = mask_count (take_slot r.slots link chunks) ∙ ap count_true masked in
-      done_goes r slot.slot chunks masked (take_hashes r.slots link chunks ∙ open_it.hashes) (count_true (set left link false)) refl
-      (subst (λ (k : ℕ). fetch_done s n link (wire_of slot.slot) (taken r link chunks) k ≡ (outcome_of e.reply, e.after.state)) counted (sym steps ∙ acts))
+  at_link : MaskedLink r.reader.links link
+  at_link = mask_link r.reader.links left link o.mask valid.left_it
 
--- ---- one event, with respect to a read
+  here : IsGoodAt m e.before n r
+  here = subst (GoodAt m e.before n) o.found (good n)
 
-module _ (m : Content) (e : Event) (n : ℕ) (links : List PlannedLink) (left : List Bool) (is : IsStep e) (agree : AgreesWith m e.before.state.store) (good : Goods m e.before) (follows : Follows e.before.state n links left) where
-  other_goes : (act : Act) → e.step.act ≡ act → NotNames n act → Follows e.after.state n links left
-  other_goes act act_is other = stays_open m e.before e.step.at e.reply e.after.state act n links left good other (subst (λ (a : Act). Acts e.before.state e.step.at a (outcome_of e.reply) e.after.state) act_is is.steps) follows
+  g : GoodLink m at_link.link
+  g = left_good m r.reader.links link at_link.link here.read.links at_link.left
 
-  abbrev GoesBy : Act → Type 0
-  GoesBy act = AnsweredAt n left e.reply act × Follows e.after.state n links (left_after n left act)
+  there : stored e.before.state.store at_link.link.hash ≡ Some valid.chunks
+  there = ap (stored e.before.state.store) (same_hash_at r.reader.links links link at_link.link valid.planned o.hashes at_link.is valid.is) ∙ valid.there
 
-  fetch_by_name : (read link : ℕ) → e.step.act ≡ Fetch read link → (b : Bool) → eqb read n ≡ b → ValidAt n links left e (Fetch read link)
-      → (read ≡ n → Answered n link (count_true (set left link false)) e.reply) × Follows e.after.state n links (cond b (set left link false) left)
-  fetch_by_name read link act_is true t valid =
-      let same = eqb-true read n t in
-      let v = valid same in
-      elim follows as (λ _. (read ≡ n → Answered n link (count_true (set left link false)) e.reply) × Follows e.after.state n links (set left link false)) [
-        | inl o ↦
-            (let g = fetch_goes e n links left link m is agree good (act_is ∙ ap (λ (k : ℕ). Fetch k link) same) v o in
-            (λ _. g.answered, g.follows))
-        | inr none ↦ absurd (none_left left link none v.left_it)
-      ]
-  fetch_by_name read link act_is false t valid =
-      let apart : read ≡ n → ⊥ = λ same. let clash : true ≡ false = sym (eq-eqb read n same) ∙ t in absurd cc in
-      (λ same. absurd (apart same), other_goes (Fetch read link) act_is apart)
-
-  goes_by : (act : Act) → e.step.act ≡ act → ValidAt n links left e act → GoesBy act
-  goes_by (Fetch read link) act_is valid = fetch_by_name read link act_is (eqb read n) refl valid
-  goes_by (UploadXorb hash content) act_is valid = (tt, other_goes _ act_is tt)
-  goes_by (UploadShard content) act_is valid = (tt, other_goes _ act_is tt)
-  goes_by (Plan version file range) act_is valid = (tt, other_goes _ act_is tt)
-
--- the steps of a followed read succeed
-pub rest_goes : (facts : PlanFacts) (m : Content) (n : ℕ) (links : List PlannedLink) (left : List Bool) (w : World) (es : List Event) (end : World) → Chain w es end → IsAgreed m es → Goods m w → Follows w.state n links left
-    → IsValidRest n links left es → AnsweredRest n left es
-rest_goes facts m n links left w [] end chain agree good follows valid = tt
-rest_goes facts m n links left w (e ∷ es) end chain agree good follows valid =
-    let before_good = subst (Goods m) (sym chain.0) good in
-    let before_follows = subst (λ (u : World). Follows u.state n links left) (sym chain.0) follows in
-    let g = goes_by m e n links left chain.1 agree.0.0 before_good before_follows e.step.act refl valid.0 in
-    let s = event_steps facts m e chain.1 agree.0.0 before_good in
-    (g.0, rest_goes facts m n links (left_after n left e.step.act) e.after es end chain.2 agree.1 s.good g.1 valid.1)
-
--- ---- a served plan opens a read
-
-pub record Opened (e : Event) : Type 0 where
-  pub offset : ℕ
-  pub terms : List XorbReconstructionTerm
-  pub links : List PlannedLink
-  pub reply : e.reply ≡ Planned e.before.state.next V1 offset terms links
-  pub some : 0 < length links
-  pub open_it : IsOpen e.after.state e.before.state.next links (all_left links)
-
-fresh_mask : (at : ℕ) (rs : List Run) → map is_left (map slot_of rs) ≡ all_left (map (link_of at) rs)
-fresh_mask at [] = refl
-fresh_mask at (r ∷ rs) = ap (λ (bs : List Bool). true ∷ bs) (fresh_mask at rs)
-
-fresh_hashes : (at : ℕ) (rs : List Run) → map slot_hash (map slot_of rs) ≡ map link_hash (map (link_of at) rs)
-fresh_hashes at [] = refl
-fresh_hashes at (r ∷ rs) = ap (λ (hs : List (List ℕ)). r.hash ∷ hs) (fresh_hashes at rs)
-
-module _ (facts : PlanFacts) (e : Event) (version : PlanVersion) (file : List ℕ) (range : Option (Range ℕ _F)) (is : IsStep e) (served : IsServed e file range) where
-  from_links : (plan : PlanModel) → Serves (known_of e.before.state.store) served.segments range served.clip plan → (ls : List PlannedLink) → links_of e.step.at plan ≡ ls
-      → open_links e.before.state plan range e.step.at ls ≡ (outcome_of e.reply, e.after.state) → Opened e
-  from_links plan serves [] links h =
-      let some : 0 < length (links_of e.step.at plan) = facts.planned_some e.before.state.store served.segments range served.clip plan e.step.at serves served.reached served.some in
-      let none : length (links_of e.step.at plan) ≡ 0 = ap (λ (ls : List PlannedLink). length ls) links in
-      absurd (omega (arith, some, none))
-  from_links plan serves (l ∷ ls) links h =
-      let s = e.before.state in
-      let at = e.step.at in
-      let o : Outcome = (Ok (Planned s.next V1 plan.offset_into_first_range plan.terms (l ∷ ls)), opened s (read_of plan range at)) in
-      let same = second_is o (outcome_of e.reply) e.after.state h in
+  done_goes : (got : List Chunks) (wire k : ℕ) → count_left (take_link r.reader link got).links ≡ k
+      → fetch_done e.before.state.reads n link wire (with_reader r (take_link r.reader link got)) k ≡ (outcome_of e.reply, e.after.state.reads) → FetchGoes e n stamp links left link
+  done_goes got wire zero count h =
+      let masked : map is_open (take_link r.reader link got).links ≡ set left link false = mask_take r.reader.links link got ∙ ap (λ (bs : List Bool). set bs link false) o.mask in
+      let none : count_true (set left link false) ≡ 0 = sym (mask_count (take_link r.reader link got).links ∙ ap count_true masked) ∙ count in
       record {
-        offset = plan.offset_into_first_range;
-        terms = plan.terms;
-        links = l ∷ ls;
-        reply = reply_is e.reply (Planned s.next V1 plan.offset_into_first_range plan.terms (l ∷ ls)) (first_is o (outcome_of e.reply) e.after.state h);
-        some = omega arith;
-        open_it = record {
-          read = read_of plan range at;
-          found = ap (λ (t : State). get t.reads s.next) same ∙ put_here s.reads s.next (read_of plan range at);
-          mask = fresh_mask at (runs_of plan) ∙ ap all_left links;
-          hashes = fresh_hashes at (runs_of plan) ∙ ap (map link_hash) links;
-        };
+        answered = subst (λ (k : ℕ). Answered n link k e.reply) (sym none) (record { bytes = bytes_read (take_link r.reader link got); wire = wire; is = reply_is e.reply (Finished n (bytes_read (take_link r.reader link got)) wire no_note) (sym (ap (λ (p : ReadsOutcome). p.0) h)) });
+        follows = inr none;
+      }
+  done_goes got wire (suc k) count h =
+      let masked : map is_open (take_link r.reader link got).links ≡ set left link false = mask_take r.reader.links link got ∙ ap (λ (bs : List Bool). set bs link false) o.mask in
+      let some : count_true (set left link false) ≡ suc k = sym (mask_count (take_link r.reader link got).links ∙ ap count_true masked) ∙ count in
+      record {
+        answered = subst (λ (j : ℕ). Answered n link j e.reply) (sym some) (record { wire = wire; is = reply_is e.reply (Fetched n link (suc k) wire no_note) (sym (ap (λ (p : ReadsOutcome). p.0) h)) });
+        follows = inl (record {
+          read = with_reader r (take_link r.reader link got);
+          found = ap (λ (rs : Reads). get rs n) (sym (ap (λ (p : ReadsOutcome). p.1) h)) ∙ put_here e.before.state.reads n (with_reader r (take_link r.reader link got));
+          stamped = o.stamped;
+          mask = masked;
+          hashes = take_hashes r.reader.links link got ∙ o.hashes;
+        });
       }
 
-  faulty : (x : Refusal) → first_fault (known_of e.before.state.store) served.clip served.segments ≡ Some x → ⊥
-  faulty x h = none_some (sym served.agree ∙ h)
-    where
-      none_some : ◌≡◌ {A = Option Refusal} None (Some x) → ⊥
-      none_some k = absurd cc
+  abbrev body : List ℕ
+  body = xorb_text (cut_chunks g.all g.range)
 
-  from_answer : (r : Result (Option PlanModel) Refusal) → PlansWithin (known_of e.before.state.store) served.segments range served.clip r → plan_step e.before.state range e.step.at r ≡ (outcome_of e.reply, e.after.state) → Opened e
-  from_answer (Ok None) h step = absurd h
-  from_answer (Ok (Some plan)) h step =
-      from_links plan h (links_of e.step.at plan) refl
-      (subst (λ (b : Bool). cond b (refuses e.before.state InvalidArguments) (open_links e.before.state plan range e.step.at (links_of e.step.at plan)) ≡ (outcome_of e.reply, e.after.state)) served.numbered step)
-  from_answer (Err (FormatError faults.Segment)) h step = absurd (faulty (FormatError faults.Segment) h)
-  from_answer (Err (FormatError faults.Xorb)) h step = absurd h
-  from_answer (Err (FormatError faults.Shard)) h step = absurd h
-  from_answer (Err (FormatError faults.Table)) h step = absurd h
-  from_answer (Err (FormatError faults.Body)) h step = absurd h
-  from_answer (Err (XORBNotFound hash)) h step = absurd (faulty (XORBNotFound hash) h)
-  from_answer (Err InvalidRange) h step = absurd h
-  from_answer (Err InvalidArguments) h step = absurd h
-  from_answer (Err (FileNotFound hash)) h step = absurd h
-  from_answer (Err PresignedUrlExpirationError) h step = absurd h
-  from_answer (Err IOError) h step = absurd h
-  from_answer (Err Other) h step = absurd h
-  from_answer (Err InvalidKey) h step = absurd h
-  from_answer (Err CacheError) h step = absurd h
-  from_answer (Err (HttpStatus status)) h step = absurd h
+  never : (why : Refusal) → Brings IsOne at_link.link [] body (Err why) → ⊥
+  never why (inl h) = no_parts h.0.0 h.0.1
+  never why (inr h) = never_refused m e.before.state.store at_link.link g valid.chunks agree there why (subst (λ (d : Option XorbRangeDescriptor). BringsPlain IsOne d at_link.link.held body (Err why)) (ap only_range g.only) h.1)
 
-  served_opens : e.step.act ≡ Plan version file range → Opened e
-  served_opens act_is =
+  taken_goes : (answer : Result (Unit {0}) Refusal) (after : Reading) → Accepts r.reader link [] body answer after → fetch_taken e.before.state.reads n link (length body) r answer after ≡ (outcome_of e.reply, e.after.state.reads) → FetchGoes e n stamp links left link
+  taken_goes (Err why) after a h = absurd (never why (subst (λ (l : Option ReadLink). BringsTo IsOne l [] body (Err why)) at_link.left a.0))
+  taken_goes (Ok u) after a h =
+      done_goes a.0 (length body) (count_left (take_link r.reader link a.0).links) refl
+      (subst (λ (x : Reading). fetch_done e.before.state.reads n link (length body) (with_reader r x) (count_left x.links) ≡ (outcome_of e.reply, e.after.state.reads)) a.1.1 h)
+
+  -- a valid fetch of an open read succeeds
+  pub fetch_goes : Fetches e.before.state n link e.step.at (outcome_of e.reply) e.after.state → FetchGoes e n stamp links left link
+  fetch_goes h =
       let s = e.before.state in
-      let h : PlansBy s file range e.step.at (outcome_of e.reply) e.after.state = subst (λ (a : Act). Acts s e.step.at a (outcome_of e.reply) e.after.state) act_is is.steps in
-      let listed : PlansListed (known_of s.store) range (Some served.segments) h.answer = subst (λ (o : Option (List Segment)). PlansListed (known_of s.store) range o h.answer) served.live h.plans in
-      let within : PlansReached (known_of s.store) served.segments range (Within served.clip.start served.clip.end) h.answer = subst (λ (r : Reach). PlansReached (known_of s.store) served.segments range r h.answer) served.reached listed in
-      from_answer h.answer within h.step
-
--- ---- every valid read of a run
-
-pub run_succeeds : (facts : PlanFacts) (m : Content) (w : World) (es : List Event) (end : World) → Chain w es end → IsAgreed m es → Goods m w → ReadsSucceed es
-run_succeeds facts m w [] end chain agree good = tt
-run_succeeds facts m w (e ∷ es) end chain agree good =
-    let before_good = subst (Goods m) (sym chain.0) good in
-    let s = event_steps facts m e chain.1 agree.0.0 before_good in (
-      λ version file range act_is served.
-          let o = served_opens facts e version file range chain.1 served act_is in
-          record {
-            offset = o.offset;
-            terms = o.terms;
-            links = o.links;
-            reply = o.reply;
-            some = o.some;
-            rest = rest_goes facts m e.before.state.next o.links (all_left o.links) e.after es end chain.2 agree.1 s.good (inl o.open_it);
-          },
-      run_succeeds facts m e.after es end chain.2 agree.1 s.good,
-    )
-
-pub succeeds : (facts : PlanFacts) (w : World) (es : List Event) (end : World) → Chain w es end → NoneOpen w.state → (m : Content) → IsAgreed m es → ReadsSucceed es
-succeeds facts w es end chain none m agree = run_succeeds facts m w es end chain agree (none_good m w none)
+      let linked = subst (λ (q : Option OpenRead). FetchesRead s.store s.reads n link e.step.at q (outcome_of e.reply) e.after.state.reads) o.found h.reads in
+      let aged = subst (λ (q : Option ReadLink). FetchesLink s.store s.reads n link e.step.at r q (outcome_of e.reply) e.after.state.reads) at_link.left linked in
+      let fresh : is_expired e.step.at r.stamp s.store.expiration ≡ false = ap (λ (k : ℕ). is_expired e.step.at k s.store.expiration) o.stamped ∙ valid.fresh in
+      let ranged = subst (λ (b : Bool). FetchesIf s.store s.reads n link r at_link.link b (outcome_of e.reply) e.after.state.reads) fresh aged in
+      let bodied = subst (λ (d : Option XorbRangeDescriptor). FetchesRange s.store s.reads n link r at_link.link.hash d (outcome_of e.reply) e.after.state.reads) (ap only_range g.only) ranged in
+      let takes : TakesBody s.reads n link r body (outcome_of e.reply) e.after.state.reads = subst (λ (a : Result (List ℕ) Refusal). FetchesBody s.reads n link r a (outcome_of e.reply) e.after.state.reads) (is_there m s.store at_link.link g valid.chunks agree there) bodied in
+      taken_goes takes.answer takes.after takes.accepts takes.step

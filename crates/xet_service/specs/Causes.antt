@@ -1,5 +1,5 @@
 -- Why a step is answered as it is.
-use Rattle.std.specs.Prelude.{◌≡◌, ℕ, ◌<◌, ◌≤◌, true, List, length, ◌⊎◌, Option, Some, None}
+use Rattle.std.specs.Prelude.{◌≡◌, ℕ, true, false, List, ◌⊎◌, Option, Some, None, Ok, Err}
 use Rattle.std.specs.FinMap.{get}
 use Rattle.xet_types.specs.declared.error.Refusal.{Refusal}
 use Rattle.xet_types.specs.declared.error.Refusal.TheVariants.{FormatError, InvalidRange, InvalidArguments, FileNotFound, XORBNotFound, PresignedUrlExpirationError, IOError, Other, InvalidKey, CacheError, HttpStatus}
@@ -14,14 +14,20 @@ use Rattle.xet_xorb.specs.XorbBytes.{IsXorbText}
 use Rattle.xet_plan.specs.Places.{Interval, reach, first_fault}
 use Rattle.xet_plan.specs.declared.place.Reach.TheVariants.{Past, Reversed, Within}
 use Rattle.xet_store.specs.StoreModel.{Chunks, stored, listing, known_of}
+use Rattle.xet_store.specs.StoreModel.{shard_named}
 use Rattle.xet_store.specs.Commands.{IsMisnamed}
+use Rattle.xet_store.specs.Questions.{asked}
+use Rattle.xet_types.specs.Ranges.{file_range_of}
+use Rattle.xet_types.specs.declared.record.XorbRangeDescriptor.{XorbRangeDescriptor}
 use Rattle.xet_service.specs.declared.step.Act.{Act}
-use Rattle.xet_service.specs.declared.step.Act.TheVariants.{UploadXorb, UploadShard, Plan, Fetch}
+use Rattle.xet_service.specs.declared.step.Act.TheVariants.{UploadXorb, UploadShard, Plan, Fetch, Abandon, DeleteShard, FileSize, FileData}
 use Rattle.xet_service.specs.declared.step.PlanVersion.{PlanVersion}
-use Rattle.xet_service.specs.declared.slots.Slot.{Slot}
-use Rattle.xet_service.specs.Reads.{Read, left_slot}
+use Rattle.xet_service.specs.declared.read.OpenRead.{OpenRead}
+use Rattle.xet_service.specs.declared.reader.link.ReadLink.{ReadLink}
+use Rattle.xet_service.specs.Bodies.{body_of}
+use Rattle.xet_service.specs.Reading.{left_link, only_range, IsBroken, IsMisfit}
 use Rattle.xet_service.specs.World.{State}
-use Rattle.xet_service.specs.Steps.{used_up}
+use Rattle.xet_service.specs.Steps.{used_up, is_expired}
 
 -- ---- uploads
 
@@ -46,6 +52,47 @@ pub record NoShard (act : Act) : Type 0 where
   pub content : List ℕ
   pub is : act ≡ UploadShard content
   pub unspelled : (shard : ShardModel) → IsReadAs content shard → ⊥
+
+-- ---- deletions
+
+-- of a shard that isn't stored
+pub record DeletesNothing (s : State) (act : Act) : Type 0 where
+  pub name : List ℕ
+  pub is : act ≡ DeleteShard name
+  pub unstored : shard_named s.store.shards name ≡ None
+
+-- ---- files
+
+-- the file's size or bytes are asked
+abbrev pub AsksOf : Act → List ℕ → Type 0
+AsksOf (FileSize f) file = f ≡ file
+AsksOf (FileData f range) file = f ≡ file
+AsksOf act file = ⊥
+
+-- the size or the bytes of a file that isn't live
+pub record AsksNothing (s : State) (act : Act) (file : List ℕ) : Type 0 where
+  pub is : AsksOf act file
+  pub gone : listing s.store file ≡ None
+
+-- the bytes of a live file
+pub record AsksLive (s : State) (act : Act) : Type 0 where
+  pub file : List ℕ
+  pub range : Option (Range ℕ _F)
+  pub is : act ≡ FileData file range
+  pub segments : List Segment
+  pub live : listing s.store file ≡ Some segments
+
+-- in a range that begins at or past its end, or ends below its start
+pub record AsksPast (s : State) (act : Act) : Type 0 where
+  pub asks : AsksLive s act
+  pub past : asked (size_of asks.segments) asks.range ≡ None
+
+-- whose first fault is this one
+pub record AsksFaulty (s : State) (act : Act) (why : Refusal) : Type 0 where
+  pub asks : AsksLive s act
+  pub clip : Interval
+  pub inside : asked (size_of asks.segments) asks.range ≡ Some clip
+  pub fault : first_fault (known_of s.store) clip asks.segments ≡ Some why
 
 -- ---- plans
 
@@ -76,7 +123,7 @@ pub record PlansUsedUp (s : State) (act : Act) : Type 0 where
   pub clip : Interval
   pub reached : reach (size_of plan.segments) plan.range ≡ Within clip.start clip.end
   pub faultless : first_fault (known_of s.store) clip plan.segments ≡ None
-  pub used : used_up s ≡ true
+  pub used : used_up s.next ≡ true
 
 -- a plan of a file that isn't live, or whose range begins at or past its end
 pub record PlansNothing (s : State) (act : Act) : Type 0 where
@@ -86,14 +133,14 @@ pub record PlansNothing (s : State) (act : Act) : Type 0 where
   pub is : act ≡ Plan version file range
   pub nothing : (listing s.store file ≡ None) ⊎ ((segments : List Segment) × (listing s.store file ≡ Some segments) × (reach (size_of segments) range ≡ Past))
 
--- ---- fetches
+-- ---- open reads
 
 -- the link of the read is left
 pub record IsLeft (s : State) (read link : ℕ) : Type 0 where
-  pub held : Read
-  pub slot : Slot
+  pub held : OpenRead
+  pub it : ReadLink
   pub open_it : get s.reads read ≡ Some held
-  pub left : left_slot held.slots link ≡ Some slot
+  pub left : left_link held.reader.links link ≡ Some it
 
 -- a fetch of a link that isn't left, or of a read that isn't open
 pub record FetchesNothing (s : State) (act : Act) : Type 0 where
@@ -102,41 +149,83 @@ pub record FetchesNothing (s : State) (act : Act) : Type 0 where
   pub is : act ≡ Fetch read link
   pub gone : IsLeft s read link → ⊥
 
--- a fetch of a link that is left, whose xorb isn't stored
-pub record FetchesUnstored (s : State) (act : Act) (hash : List ℕ) : Type 0 where
+-- a read that isn't open is abandoned
+pub record AbandonsNothing (s : State) (act : Act) : Type 0 where
+  pub read : ℕ
+  pub is : act ≡ Abandon read
+  pub gone : get s.reads read ≡ None
+
+-- a fetch of a link that is left
+pub record FetchesLeft (s : State) (act : Act) : Type 0 where
   pub read : ℕ
   pub link : ℕ
   pub is : act ≡ Fetch read link
   pub left : IsLeft s read link
-  pub hash_is : left.slot.hash ≡ hash
+
+-- of one that is expired
+pub record FetchesLate (s : State) (at : ℕ) (act : Act) : Type 0 where
+  pub fetch : FetchesLeft s act
+  pub late : is_expired at fetch.left.held.stamp s.store.expiration ≡ true
+
+-- of one that isn't, and whose xorb isn't stored
+pub record FetchesUnstored (s : State) (at : ℕ) (act : Act) (hash : List ℕ) : Type 0 where
+  pub fetch : FetchesLeft s act
+  pub fresh : is_expired at fetch.left.held.stamp s.store.expiration ≡ false
+  pub hash_is : fetch.left.it.hash ≡ hash
   pub unstored : stored s.store hash ≡ None
 
--- a fetch of a link that is left, whose xorb as it is stored now hasn't the chunks
-pub record FetchesPast (s : State) (act : Act) : Type 0 where
-  pub read : ℕ
-  pub link : ℕ
-  pub is : act ≡ Fetch read link
-  pub left : IsLeft s read link
+-- of one whose xorb is stored
+pub record FetchesStored (s : State) (at : ℕ) (act : Act) : Type 0 where
+  pub fetch : FetchesLeft s act
+  pub fresh : is_expired at fetch.left.held.stamp s.store.expiration ≡ false
   pub chunks : Chunks
-  pub there : stored s.store left.slot.hash ≡ Some chunks
-  pub past : left.slot.range.chunk_range.start < left.slot.range.chunk_range.end → left.slot.range.chunk_range.end ≤ length chunks → ⊥
+  pub there : stored s.store fetch.left.it.hash ≡ Some chunks
+  pub range : XorbRangeDescriptor
+  pub only : only_range fetch.left.it.ranges ≡ Some range
+
+-- as it is stored now it hasn't the bytes
+pub record FetchesPast (s : State) (at : ℕ) (act : Act) : Type 0 where
+  pub of : FetchesStored s at act
+  pub past : body_of (file_range_of of.range.bytes) of.chunks ≡ Err InvalidRange
+
+-- it has these
+pub record FetchesBytes (s : State) (at : ℕ) (act : Act) : Type 0 where
+  pub of : FetchesStored s at act
+  pub bytes : List ℕ
+  pub there : body_of (file_range_of of.range.bytes) of.chunks ≡ Ok bytes
+
+-- which aren't whole chunks
+pub record FetchesBroken (s : State) (at : ℕ) (act : Act) : Type 0 where
+  pub brings : FetchesBytes s at act
+  pub broken : IsBroken brings.of.range brings.bytes
+
+-- which are, and don't fit
+pub record FetchesMisfit (s : State) (at : ℕ) (act : Act) : Type 0 where
+  pub brings : FetchesBytes s at act
+  pub misfit : IsMisfit brings.of.range brings.of.fetch.left.it.held brings.bytes
+
+-- The act asks the store: a fetch does so only for a link that is left and not expired.
+abbrev pub IsAsked : State → ℕ → Act → Type 0
+IsAsked s at (Fetch read link) = (l : IsLeft s read link) × (is_expired at l.held.stamp s.store.expiration ≡ false)
+IsAsked s at (Abandon read) = ⊥
+IsAsked s at act = Unit {0}
 
 -- ---- refusals
 
--- the cause of each refusal
-abbrev pub HasCause : State → Act → Refusal → Type 0
-HasCause s act (FormatError faults.Xorb) = NoXorb s act
-HasCause s act (FormatError faults.Shard) = NoShard act
-HasCause s act (FormatError faults.Segment) = PlansFaulty s act (FormatError faults.Segment)
-HasCause s act (FormatError faults.Table) = ⊥
-HasCause s act (FormatError faults.Body) = ⊥
-HasCause s act InvalidRange = PlansReversed s act ⊎ FetchesPast s act
-HasCause s act InvalidArguments = PlansUsedUp s act ⊎ FetchesNothing s act
-HasCause s act (FileNotFound hash) = ⊥
-HasCause s act (XORBNotFound hash) = PlansFaulty s act (XORBNotFound hash) ⊎ FetchesUnstored s act hash
-HasCause s act PresignedUrlExpirationError = ⊥
-HasCause s act IOError = ⊥
-HasCause s act Other = FalseName s act
-HasCause s act InvalidKey = ⊥
-HasCause s act CacheError = ⊥
-HasCause s act (HttpStatus status) = ⊥
+-- The cause of each refusal but the outside's, which the count of faults shows.
+abbrev pub HasCause : State → ℕ → Act → Refusal → Type 0
+HasCause s at act (FormatError faults.Xorb) = NoXorb s act ⊎ FetchesBroken s at act
+HasCause s at act (FormatError faults.Shard) = NoShard act
+HasCause s at act (FormatError faults.Segment) = PlansFaulty s act (FormatError faults.Segment) ⊎ AsksFaulty s act (FormatError faults.Segment)
+HasCause s at act (FormatError faults.Table) = ⊥
+HasCause s at act (FormatError faults.Body) = FetchesMisfit s at act
+HasCause s at act InvalidRange = PlansReversed s act ⊎ (FetchesPast s at act ⊎ AsksPast s act)
+HasCause s at act InvalidArguments = PlansUsedUp s act ⊎ (FetchesNothing s act ⊎ AbandonsNothing s act)
+HasCause s at act (FileNotFound hash) = AsksNothing s act hash
+HasCause s at act (XORBNotFound hash) = PlansFaulty s act (XORBNotFound hash) ⊎ (AsksFaulty s act (XORBNotFound hash) ⊎ FetchesUnstored s at act hash)
+HasCause s at act PresignedUrlExpirationError = FetchesLate s at act
+HasCause s at act IOError = ⊥
+HasCause s at act Other = FalseName s act ⊎ DeletesNothing s act
+HasCause s at act InvalidKey = ⊥
+HasCause s at act CacheError = ⊥
+HasCause s at act (HttpStatus status) = ⊥

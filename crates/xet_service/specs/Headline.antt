@@ -1,7 +1,6 @@
 -- What every run keeps.
 use Rattle.std.specs.Prelude.{◌≡◌, ℕ, ◌<◌, ◌≤◌, ◌↔◌, ◌⊎◌, List, [], ◌∷◌, ◌++◌, length, take, Option, Some, None, Result, Ok, Err}
 use Rattle.std.specs.List.{AllByRecursion}
-use Rattle.std.specs.FinMap as finmap
 use Rattle.xet_types.specs.declared.error.Refusal.{Refusal}
 use Rattle.xet_types.specs.declared.error.Refusal.TheVariants.{InvalidArguments}
 use Rattle.xet_types.specs.declared.range.Range.{Range}
@@ -23,12 +22,17 @@ use Rattle.xet_service.specs.declared.step.PlanVersion.{PlanVersion}
 use Rattle.xet_service.specs.declared.reply.PlannedLink.{PlannedLink}
 use Rattle.xet_service.specs.declared.reply.CacheNote.{CacheNote}
 use Rattle.xet_service.specs.declared.reply.Reply.{Reply}
-use Rattle.xet_service.specs.declared.reply.Reply.TheVariants.{NoPlan, Planned, Fetched, Finished, Refused}
-use Rattle.xet_service.specs.Links.{links_of}
-use Rattle.xet_service.specs.World.{State, Numbered}
+use Rattle.xet_service.specs.declared.reply.Reply.TheVariants.{NoPlan, Done, Planned, Fetched, Finished, Refused}
+use Rattle.xet_types.specs.Records.{second_of}
+use Rattle.xet_types.specs.Faults.{Rose}
+use Rattle.xet_types.specs.declared.error.Refusal.TheVariants.{IOError}
+use Rattle.xet_store.specs.Responses.{first_of}
+use Rattle.xet_service.specs.declared.step.Act.TheVariants.{Abandon}
+use Rattle.xet_service.specs.Links.{planned_links}
+use Rattle.xet_service.specs.World.{State, IsInOrder}
 use Rattle.xet_service.specs.Runs.{World, world, Event, IsRun}
 use Rattle.xet_service.specs.Causes.{HasCause, PlansNothing, IsLeft}
-use Rattle.xet_service.specs.Validity.{IsAgreed, ReadsSucceed}
+use Rattle.xet_service.specs.Validity.{IsValidList, ReadsSucceed}
 
 -- ---- links
 
@@ -62,11 +66,37 @@ pub record HoldsMet (store : StoreModel) (file : List ℕ) (range : Option (Rang
   pub is_plan : IsPlan (known_of store) segments clip plan
   pub of_terms : terms ≡ plan.terms
   pub of_offset : offset ≡ plan.offset_into_first_range
-  pub of_links : links ≡ links_of at plan
+  pub of_links : links ≡ planned_links (second_of (first_of at plan))
   pub covers : (hash : List ℕ) (k : ℕ) → LinksHave links hash k ↔ Has (met_chunks (known_of store) clip segments) hash k
   pub once : EachOnce links
 
--- ---- each step
+-- ---- the five sentences
+
+-- A read finishes only with the file's bytes as its plan step's store gave them.
+abbrev pub Finishes : Event → Type 0
+Finishes e = (read : ℕ) (bytes : List ℕ) (wire : ℕ) (note : CacheNote) → e.reply ≡ Finished read bytes wire note → bytes ≡ e.after.fixed read
+
+-- A plan's links hold exactly the chunks that meet its range, each once.
+abbrev pub LinksExactly : Event → Type 0
+LinksExactly e = (version : PlanVersion) (file : List ℕ) (range : Option (Range ℕ _F)) (read : ℕ) (of : PlanVersion) (offset : ℕ) (terms : List XorbReconstructionTerm) (ls : List PlannedLink)
+    → e.step.act ≡ Plan version file range → e.reply ≡ Planned read of offset terms ls → HoldsMet e.before.state.store file range e.step.at offset terms ls
+
+-- A refused step changes neither store nor open reads.
+abbrev pub RefusedChangesNothing : Event → Type 0
+RefusedChangesNothing e = (why : Refusal) → e.reply ≡ Refused why → e.after.state ≡ e.before.state
+
+-- the outside's refusal comes where its count rose, each other from the state and the act
+abbrev pub Cause : Event → Refusal → Type 0
+Cause e IOError = Rose e.before.faults e.after.faults
+Cause e why = HasCause e.before.state e.step.at e.step.act why
+
+-- It has its stated cause.
+abbrev pub RefusedForCause : Event → Type 0
+RefusedForCause e = (why : Refusal) → e.reply ≡ Refused why → Cause e why
+
+-- The fifth, that a valid read's steps all succeed, the last fetch finishing it, is `ReadsSucceed`.
+
+-- ---- links that are left
 
 -- a fetch of this link succeeded
 abbrev pub Brings : ℕ → ℕ → Reply → Type 0
@@ -74,49 +104,44 @@ Brings read link (Fetched n l left wire note) = (n ≡ read) × (l ≡ link)
 Brings read link (Finished n bytes wire note) = n ≡ read
 Brings read link reply = ⊥
 
-pub record Keeps (e : Event) : Type 0 where
-  -- a plan's links hold exactly the met chunks, each once
-  pub links : (version : PlanVersion) (file : List ℕ) (range : Option (Range ℕ _F)) (read : ℕ) (of : PlanVersion) (offset : ℕ) (terms : List XorbReconstructionTerm) (ls : List PlannedLink)
-      → e.step.act ≡ Plan version file range → e.reply ≡ Planned read of offset terms ls → HoldsMet e.before.state.store file range e.step.at offset terms ls
-  -- a refused step changes nothing and has its cause
-  pub refused : (why : Refusal) → e.reply ≡ Refused why → e.after.state ≡ e.before.state
-  pub cause : (why : Refusal) → e.reply ≡ Refused why → HasCause e.before.state e.step.act why
-  pub no_plan : e.reply ≡ NoPlan → PlansNothing e.before.state e.step.act
-  -- a link is left until its fetch succeeds, and is then refused
-  pub left : (read link : ℕ) → IsLeft e.before.state read link → IsLeft e.after.state read link ⊎ ((e.step.act ≡ Fetch read link) × Brings read link e.reply)
-  pub gone : (read link : ℕ) → e.step.act ≡ Fetch read link → (IsLeft e.before.state read link → ⊥) → e.reply ≡ Refused InvalidArguments
+-- the step brings the link, or gives its read up
+abbrev pub Ends : Event → ℕ → ℕ → Type 0
+Ends e read link = ((e.step.act ≡ Fetch read link) × Brings read link e.reply) ⊎ ((e.step.act ≡ Abandon read) × (e.reply ≡ Done))
 
--- a read finishes with its file's bytes as its plan's store gave them
-abbrev pub Finishes : Event → Type 0
-Finishes e = (read : ℕ) (bytes : List ℕ) (wire : ℕ) (note : CacheNote) → e.reply ≡ Finished read bytes wire note → bytes ≡ e.after.fixed read
+pub record Keeps (e : Event) : Type 0 where
+  pub links : LinksExactly e
+  pub refused : RefusedChangesNothing e
+  pub cause : RefusedForCause e
+  -- the answer that there is no plan has its cause too
+  pub no_plan : e.reply ≡ NoPlan → PlansNothing e.before.state e.step.act
+  -- a link is left until a fetch of it succeeds or its read is abandoned; a fetch of a link that isn't left is refused
+  pub left : (read link : ℕ) → IsLeft e.before.state read link → IsLeft e.after.state read link ⊎ Ends e read link
+  pub gone : (read link : ℕ) → e.step.act ≡ Fetch read link → (IsLeft e.before.state read link → ⊥) → e.reply ≡ Refused InvalidArguments
 
 -- ---- the headline
 
--- no read is open
-abbrev pub NoneOpen : State → Type 0
-NoneOpen s = s.reads ≡ finmap.empty
-
+-- Of a run's events: the second to fourth sentence for every list from reads in order, the first and the fifth for every valid list.
 pub record Headline (start : World) (events : List Event) : Type 0 where
-  -- links, refusals and their causes
-  pub keeps : Numbered start.state → AllByRecursion Keeps events
-  -- where no read is open at the start and no two chunk lists share a name
-  pub finishes : NoneOpen start.state → (m : Content) → IsAgreed m events → AllByRecursion Finishes events
-  pub succeeds : NoneOpen start.state → (m : Content) → IsAgreed m events → ReadsSucceed events
+  pub keeps : IsInOrder start.state → AllByRecursion Keeps events
+  pub finishes : (m : Content) → IsValidList m start.state events → AllByRecursion Finishes events
+  pub succeeds : (m : Content) → IsValidList m start.state events → ReadsSucceed events
 
--- A run of these steps whose replies were appended, from a state to a state, that keeps the headline.
-pub record RanKeeping (old : State) (steps : List Step) (before after : List Reply) (new : State) : Type 0 where
+-- A run of these steps whose replies were appended, from a state and a count of faults to others, that keeps the headline.
+pub record RanKeeping (old : State) (faults : ℕ) (steps : List Step) (before after : List Reply) (new : State) (faults_after : ℕ) : Type 0 where
   pub replies : List Reply
   pub appended : after ≡ before ++ replies
   -- whatever bytes the reads that are open already had
-  pub run : (fixed : ℕ → List ℕ) → (events : List Event) × (end : ℕ → List ℕ) × IsRun (world old fixed) steps replies events (world new end) × Headline (world old fixed) events
-  pub numbered : Numbered old → Numbered new
+  pub run : (fixed : ℕ → List ℕ) → (events : List Event) × (end : ℕ → List ℕ) × IsRun (world old faults fixed) steps replies events (world new faults_after end) × Headline (world old faults fixed) events
+  pub in_order : IsInOrder old → IsInOrder new
 
--- some first steps were done and no more, since memory was wanting
-pub record KeepsInPart (old : State) (steps : List Step) (before after : List Reply) (new : State) : Type 0 where
+-- some first steps were done and no more, since memory was wanting; the count may have risen since
+pub record KeepsInPart (old : State) (faults : ℕ) (steps : List Step) (before after : List Reply) (new : State) (faults_after : ℕ) : Type 0 where
   pub done : ℕ
   pub not_all : done < length steps
-  pub ran : RanKeeping old (take done steps) before after new
+  pub faults_then : ℕ
+  pub later : faults_then ≤ faults_after
+  pub ran : RanKeeping old faults (take done steps) before after new faults_then
 
-abbrev pub RunsKeeping : {T E : Type 0} → State → List Step → List Reply → Result T E → List Reply → State → Type 0
-RunsKeeping old steps before (Ok x) after new = RanKeeping old steps before after new
-RunsKeeping old steps before (Err e) after new = KeepsInPart old steps before after new
+abbrev pub RunsKeeping : {T E : Type 0} → State → ℕ → List Step → List Reply → Result T E → List Reply → State → ℕ → Type 0
+RunsKeeping old faults steps before (Ok x) after new faults_after = RanKeeping old faults steps before after new faults_after
+RunsKeeping old faults steps before (Err e) after new faults_after = KeepsInPart old faults steps before after new faults_after

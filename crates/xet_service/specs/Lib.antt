@@ -1,13 +1,14 @@
-pub mod Wants
 pub mod Links
-pub mod Reads
+pub mod Bodies
 pub mod World
 pub mod Steps
 pub mod Requests
 pub mod Runs
+pub mod Traces
 pub mod Causes
 pub mod Validity
 pub mod Headline
+pub mod Determined
 pub mod Reading
 pub mod ReadingPlans
 pub mod ReadingOrder

@@ -1,27 +1,75 @@
 -- What the parts of a service's requests ask and leave.
-use Rattle.std.specs.Prelude.{◌≡◌, ℕ, Option, Some, None, Result, Ok, Err}
-use Rattle.std.specs.Ordering.{nat_cmp}
-use Rattle.std.specs.FinMap.{FinMap, get}
-use Rattle.xet_store.specs.StoreModel.{Chunks}
+use Rattle.std.specs.Prelude.{◌≡◌, ℕ, ◌-◌, List, Some, Result, OnErr}
+use Rattle.std.specs.FinMap.{get}
+use Rattle.xet_types.specs.declared.error.Refusal.{Refusal}
+use Rattle.xet_types.specs.declared.error.Refusal.TheVariants.{FormatError, InvalidRange, InvalidArguments, XORBNotFound, PresignedUrlExpirationError, Other}
+use Rattle.xet_types.specs.declared.error.FormatFault.TheVariants as faults
+use Rattle.xet_store.specs.Refusals.{OfOutside, OfXorbUpload, OfShardUpload, OfShardDeletion, OfFileSize, OfPlan, OfFileData}
+use Rattle.xet_service.specs.declared.step.Act.{Act}
+use Rattle.xet_service.specs.declared.step.Act.TheVariants.{UploadXorb, UploadShard, Plan, Fetch, Abandon, HideFile, DeleteShard, DeleteXorb, SetExpiration, FileSize, FileData}
 use Rattle.xet_service.specs.declared.reply.Reply.{Reply}
-use Rattle.xet_service.specs.Reads.{Read, taken, count_left}
-use Rattle.xet_service.specs.Wants.{IsLeftIn}
-use Rattle.xet_service.specs.World.{State}
-use Rattle.xet_service.specs.Steps.{fetch_done}
+use Rattle.xet_service.specs.declared.reply.Reply.TheVariants.{Refused}
+use Rattle.xet_service.specs.declared.read.OpenRead.{OpenRead}
+use Rattle.xet_service.specs.Reading.{count_left}
+use Rattle.xet_service.specs.World.{Reads}
+use Rattle.xet_service.specs.Steps.{TakesBody}
+
+-- ---- refusals, whatever the store tells
+
+-- a plan: also no number is left
+abbrev pub OfPlanAct : Refusal → Type 0
+OfPlanAct InvalidArguments = Unit {0}
+OfPlanAct why = OfPlan why
+
+-- the link isn't left
+abbrev pub OfLink : Refusal → Type 0
+OfLink InvalidArguments = Unit {0}
+OfLink why = ⊥
+
+-- the link isn't left or expired, the xorb isn't stored or hasn't its bytes, or they don't spell the link's chunks
+abbrev pub OfFetch : Refusal → Type 0
+OfFetch InvalidArguments = Unit {0}
+OfFetch PresignedUrlExpirationError = Unit {0}
+OfFetch (XORBNotFound h) = Unit {0}
+OfFetch InvalidRange = Unit {0}
+OfFetch (FormatError faults.Xorb) = Unit {0}
+OfFetch (FormatError faults.Body) = Unit {0}
+OfFetch Other = Unit {0}
+OfFetch why = OfOutside why
+
+-- the refusals of an act
+abbrev pub OfAct : Act → Refusal → Type 0
+OfAct (UploadXorb hash content) why = OfXorbUpload why
+OfAct (UploadShard content) why = OfShardUpload why
+OfAct (Plan version file range) why = OfPlanAct why
+OfAct (Fetch read link) why = OfFetch why
+OfAct (Abandon read) why = OfLink why
+OfAct (HideFile file) why = OfOutside why
+OfAct (DeleteShard shard) why = OfShardDeletion why
+OfAct (DeleteXorb xorb) why = OfOutside why
+OfAct (SetExpiration millis) why = OfOutside why
+OfAct (FileSize file) why = OfFileSize file why
+OfAct (FileData file range) why = OfFileData file why
+
+-- a reply that is no refusal
+abbrev pub IsAnswer : Reply → Type 0
+IsAnswer (Refused why) = ⊥
+IsAnswer reply = Unit {0}
+
+-- a refusal keeps the open reads and the next number
+abbrev pub KeepsReads : {T E : Type 0} → Result T E → Reads → Reads → ℕ → ℕ → Type 0
+KeepsReads result old new next next_after = OnErr result ((new ≡ old) × (next_after ≡ next))
+
+-- ---- open reads
 
 -- a read is open at the number
-abbrev pub IsOpenAt : FinMap nat_cmp Read → ℕ → Type 0
-IsOpenAt reads n = (r : Read) × (get reads n ≡ Some r)
+abbrev pub IsOpenAt : Reads → ℕ → Type 0
+IsOpenAt reads n = (r : OpenRead) × (get reads n ≡ Some r)
 
--- a read is open at the number, and its link is left
-abbrev pub IsWantedAt : FinMap nat_cmp Read → ℕ → ℕ → Type 0
-IsWantedAt reads n link = (r : Read) × (get reads n ≡ Some r) × IsLeftIn r.slots link
+-- a read is open at the number, and so many links are left but one
+abbrev pub IsWantedAt : Reads → ℕ → ℕ → Type 0
+IsWantedAt reads n left = (r : OpenRead) × ((get reads n ≡ Some r) × (left ≡ count_left r.reader.links - 1))
 
-abbrev pub EndsAt : {E : Type 0} → State → ℕ → ℕ → ℕ → Chunks → Result Reply E → State → Option Read → Type 0
-EndsAt old read link wire chunks result new None = ⊥
-EndsAt old read link wire chunks (Ok reply) new (Some r) = fetch_done old read link wire (taken r link chunks) (count_left (taken r link chunks).slots) ≡ (Ok reply, new)
-EndsAt old read link wire chunks (Err e) new (Some r) = new ≡ old
-
--- the read took the link's chunks, or memory was wanting and nothing changed
-abbrev pub Ends : {E : Type 0} → State → ℕ → ℕ → ℕ → Chunks → Result Reply E → State → Type 0
-Ends old read link wire chunks result new = EndsAt old read link wire chunks result new (get old.reads read)
+-- the read of the number takes the body
+abbrev pub TakesAt : Reads → ℕ → ℕ → List ℕ → Result Reply Refusal → Reads → Type 0
+TakesAt old read link body result new = (r : OpenRead) × ((get old read ≡ Some r) × TakesBody old read link r body result new)

@@ -1,6 +1,10 @@
 -- Worlds, events and runs.
-use Rattle.std.specs.Prelude.{◌≡◌, ℕ, ◌==◌, ◌<◌, List, [], ◌∷◌, ◌++◌, length, map, take, Option, Some, None, Result, Ok, Err, if◌then◌else◌}
+use Rattle.std.specs.Prelude.{◌≡◌, ℕ, ◌==◌, ◌<◌, ◌≤◌, List, [], ◌∷◌, ◌++◌, length, map, take, ◌⊎◌, Option, Some, None, Result, Ok, Err, if◌then◌else◌}
 use Rattle.xet_types.specs.declared.error.Refusal.{Refusal}
+use Rattle.xet_types.specs.declared.error.Refusal.TheVariants.{IOError}
+use Rattle.xet_types.specs.Faults.{Rose, refusal_of}
+use Rattle.xet_types.specs.declared.error.ClientError.{ClientError}
+use Rattle.std.specs.Option.{option_map}
 use Rattle.xet_store.specs.Plans.{file_bytes}
 use Rattle.xet_service.specs.declared.step.Act.{Act}
 use Rattle.xet_service.specs.declared.step.Act.TheVariants.{Plan}
@@ -9,14 +13,16 @@ use Rattle.xet_service.specs.declared.reply.Reply.{Reply}
 use Rattle.xet_service.specs.declared.reply.Reply.TheVariants.{Refused}
 use Rattle.xet_service.specs.World.{State}
 use Rattle.xet_service.specs.Steps.{Acts}
+use Rattle.xet_service.specs.Causes.{IsAsked}
 
--- a state, and for each read the bytes that its file had at its plan
+-- a state, the count of the store's faults, and for each read the bytes that its file had at its plan
 pub record World : Type 0 where
   pub state : State
+  pub faults : ℕ
   pub fixed : ℕ → List ℕ
 
-abbrev pub world : State → (ℕ → List ℕ) → World
-world s fixed = record { state = s; fixed = fixed }
+abbrev pub world : State → ℕ → (ℕ → List ℕ) → World
+world s faults fixed = record { state = s; faults = faults; fixed = fixed }
 
 abbrev pub with_fixed : (ℕ → List ℕ) → ℕ → Option (List ℕ) → ℕ → List ℕ
 with_fixed fixed read None = fixed
@@ -32,9 +38,17 @@ abbrev pub outcome_of : Reply → Result Reply Refusal
 outcome_of (Refused why) = Err why
 outcome_of reply = Ok reply
 
--- a step may answer so, from a state to a state
-abbrev pub StepsTo : State → Step → Reply → State → Type 0
-StepsTo old step reply new = Acts old step.at step.act (outcome_of reply) new
+-- the store was asked and the outside failed: its count rose, and nothing else has changed
+pub record Fails (old : State) (faults : ℕ) (step : Step) (reply : Reply) (new : State) (faults_after : ℕ) : Type 0 where
+  pub reply_is : reply ≡ Refused IOError
+  pub asked : IsAsked old step.at step.act
+  pub same : new ≡ old
+  pub rose : Rose faults faults_after
+
+-- A step may answer so, from a state and a count of faults to others, or the outside failed.
+pub record StepsTo (old : State) (faults : ℕ) (step : Step) (reply : Reply) (new : State) (faults_after : ℕ) : Type 0 where
+  pub does : Acts old step.at step.act (outcome_of reply) new ⊎ Fails old faults step reply new faults_after
+  pub later : faults ≤ faults_after
 
 -- a step in a world: what came before it, its reply, and what comes after
 pub record Event : Type 0 where
@@ -44,7 +58,7 @@ pub record Event : Type 0 where
   pub after : World
 
 pub record IsStep (e : Event) : Type 0 where
-  pub steps : StepsTo e.before.state e.step e.reply e.after.state
+  pub steps : StepsTo e.before.state e.before.faults e.step e.reply e.after.state e.after.faults
   pub fixes : e.after.fixed ≡ fixed_after e.before e.step.act
 
 -- one event after another, from a world to a world
@@ -64,20 +78,36 @@ pub record IsRun (start : World) (steps : List Step) (replies : List Reply) (eve
   pub of_steps : steps ≡ map step_of events
   pub of_replies : replies ≡ map reply_of events
 
--- a run of these steps whose replies were appended, from a state to a state
-pub record Ran (old : State) (steps : List Step) (before after : List Reply) (new : State) : Type 0 where
+-- a run of these steps whose replies were appended, from a state and a count of faults to others
+pub record Ran (old : State) (faults : ℕ) (steps : List Step) (before after : List Reply) (new : State) (faults_after : ℕ) : Type 0 where
   pub replies : List Reply
   pub appended : after ≡ before ++ replies
   -- whatever bytes the reads that are open already had
-  pub run : (fixed : ℕ → List ℕ) → (events : List Event) × (end : ℕ → List ℕ) × IsRun (world old fixed) steps replies events (world new end)
+  pub run : (fixed : ℕ → List ℕ) → (events : List Event) × (end : ℕ → List ℕ) × IsRun (world old faults fixed) steps replies events (world new faults_after end)
 
--- so many of the steps were done, and not all
-pub record RanInPart (old : State) (steps : List Step) (before after : List Reply) (new : State) : Type 0 where
+-- so many of the steps were done, and not all; the count may have risen since
+pub record RanInPart (old : State) (faults : ℕ) (steps : List Step) (before after : List Reply) (new : State) (faults_after : ℕ) : Type 0 where
   pub done : ℕ
   pub not_all : done < length steps
-  pub ran : Ran old (take done steps) before after new
+  pub faults_then : ℕ
+  pub later : faults_then ≤ faults_after
+  pub ran : Ran old faults (take done steps) before after new faults_then
 
 -- all steps were done, or some first ones and memory was wanting
-abbrev pub Runs : {T E : Type 0} → State → List Step → List Reply → Result T E → List Reply → State → Type 0
-Runs old steps before (Ok x) after new = Ran old steps before after new
-Runs old steps before (Err e) after new = RanInPart old steps before after new
+abbrev pub Runs : {T E : Type 0} → State → ℕ → List Step → List Reply → Result T E → List Reply → State → ℕ → Type 0
+Runs old faults steps before (Ok x) after new faults_after = Ran old faults steps before after new faults_after
+Runs old faults steps before (Err e) after new faults_after = RanInPart old faults steps before after new faults_after
+
+-- the reply that an act's answer gives; none where memory was wanting
+abbrev pub reply_to : Result Reply ClientError → Option Reply
+reply_to (Ok reply) = Some reply
+reply_to (Err e) = option_map (λ why. Refused why) (refusal_of e)
+
+abbrev pub value_of : {T E : Type 0} → Result T E → Option T
+value_of (Ok x) = Some x
+value_of (Err e) = None
+
+-- a step was done, or memory was wanting and nothing has changed
+abbrev pub StepsOrEnds : {E : Type 0} → State → ℕ → Step → Result Reply E → State → ℕ → Type 0
+StepsOrEnds old faults step (Ok reply) new faults_after = StepsTo old faults step reply new faults_after
+StepsOrEnds old faults step (Err e) new faults_after = (new ≡ old) × (faults ≤ faults_after)

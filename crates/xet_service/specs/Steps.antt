@@ -1,26 +1,33 @@
 -- What each act answers and leaves.
-use Rattle.std.specs.Prelude.{◌≡◌, ℕ, zero, suc, ◌+◌, ◌-◌, ◌==◌, Bool, List, [], Option, Some, None, Result, Ok, Err, if◌then◌else◌}
+use Rattle.std.specs.Prelude.{◌≡◌, ℕ, zero, suc, ◌+◌, ◌-◌, ◌==◌, nat_lt, Bool, true, false, List, [], ◌∷◌, length, Option, Some, None, Result, Ok, Err, if◌then◌else◌}
 use Rattle.std.specs.FinMap.{get, insert, remove}
+use Rattle.xet_types.specs.Ranges.{file_range_of}
+use Rattle.xet_types.specs.Records.{FirstPlan, SecondPlan, second_of}
+use Rattle.xet_types.specs.declared.error.ClientError.{ClientError}
 use Rattle.xet_types.specs.declared.error.Refusal.{Refusal}
-use Rattle.xet_types.specs.declared.error.Refusal.TheVariants.{InvalidArguments}
+use Rattle.xet_types.specs.declared.error.Refusal.TheVariants.{InvalidArguments, PresignedUrlExpirationError, IOError, Other}
 use Rattle.xet_types.specs.declared.range.Range.{Range}
 use Rattle.xet_types.specs.declared.range._F.{_F}
-use Rattle.xet_plan.specs.Plans.{PlanModel}
-use Rattle.xet_store.specs.StoreModel.{StoreModel, Chunks}
-use Rattle.xet_store.specs.Commands.{UploadsXorb, UploadsShard}
-use Rattle.xet_store.specs.Plans.{PlansFile}
-use Rattle.xet_store.specs.Cuts.{cut_of}
+use Rattle.xet_types.specs.declared.record.XorbRangeDescriptor.{XorbRangeDescriptor}
+use Rattle.xet_types.specs.Faults.{refusal_of}
+use Rattle.xet_store.specs.StoreModel.{StoreModel}
+use Rattle.xet_store.specs.Commands.{UploadsXorb, UploadsShard, Is, hide_file, delete_shard, delete_xorb, set_expiration}
+use Rattle.xet_store.specs.Questions.{file_size, file_data}
+use Rattle.xet_store.specs.Responses.{Responds}
 use Rattle.xet_service.specs.declared.step.Act.{Act}
-use Rattle.xet_service.specs.declared.step.Act.TheVariants.{UploadXorb, UploadShard, Plan, Fetch}
+use Rattle.xet_service.specs.declared.step.Act.TheVariants.{UploadXorb, UploadShard, Plan, Fetch, Abandon, HideFile, DeleteShard, DeleteXorb, SetExpiration, FileSize, FileData}
 use Rattle.xet_service.specs.declared.step.PlanVersion.TheVariants.{V1}
 use Rattle.xet_service.specs.declared.reply.CacheNote.{CacheNote}
 use Rattle.xet_service.specs.declared.reply.PlannedLink.{PlannedLink}
 use Rattle.xet_service.specs.declared.reply.Reply.{Reply}
-use Rattle.xet_service.specs.declared.reply.Reply.TheVariants.{Uploaded, ShardTaken, NoPlan, Planned, Fetched, Finished}
-use Rattle.xet_service.specs.declared.slots.Slot.{Slot}
-use Rattle.xet_service.specs.Links.{links_of}
-use Rattle.xet_service.specs.Reads.{Read, read_of, taken, left_slot, count_left, assembled}
-use Rattle.xet_service.specs.World.{State}
+use Rattle.xet_service.specs.declared.reply.Reply.TheVariants.{Uploaded, ShardTaken, NoPlan, Done, Planned, Fetched, Finished, Size, Data}
+use Rattle.xet_service.specs.declared.read.OpenRead.{OpenRead}
+use Rattle.xet_service.specs.declared.reader.link.ReadLink.{ReadLink}
+use Rattle.xet_service.specs.Links.{planned_links}
+use Rattle.xet_service.specs.Bodies.{stored_body}
+use Rattle.xet_service.specs.Reading.{Reading, left_link, count_left, only_range, Accepts, bytes_read}
+use Rattle.xet_service.specs.ReadingPlans.{can_open, reading_of}
+use Rattle.xet_service.specs.World.{State, Reads}
 
 -- an answer, and the state after it
 abbrev pub Outcome : Type 0
@@ -34,68 +41,9 @@ refuses s why = (Err why, s)
 abbrev pub no_note : CacheNote
 no_note = record { hits = 0; stored = 0; refused = None }
 
--- ---- plans
+-- ---- the store's commands and questions
 
--- the last number is not given
-abbrev pub used_up : State → Bool
-used_up s = s.next == 18446744073709551615
-
-abbrev pub opened : State → Read → State
-opened s r = record s { reads = insert s.reads s.next r; next = s.next + 1 }
-
--- a plan without links finishes at once
-abbrev pub open_links : State → PlanModel → Option (Range ℕ _F) → ℕ → List PlannedLink → Outcome
-open_links s plan range at [] = (Ok (Finished s.next [] 0 no_note), record s { next = s.next + 1 })
-open_links s plan range at links = (Ok (Planned s.next V1 plan.offset_into_first_range plan.terms links), opened s (read_of plan range at))
-
-abbrev pub open_plan : State → PlanModel → Option (Range ℕ _F) → ℕ → Outcome
-open_plan s plan range at = if used_up s then refuses s InvalidArguments else open_links s plan range at (links_of at plan)
-
--- over what the planner answers
-abbrev pub plan_step : State → Option (Range ℕ _F) → ℕ → Result (Option PlanModel) Refusal → Outcome
-plan_step s range at (Err why) = refuses s why
-plan_step s range at (Ok None) = (Ok NoPlan, s)
-plan_step s range at (Ok (Some plan)) = open_plan s plan range at
-
--- ---- fetches
-
-abbrev pub with_read : State → ℕ → Read → State
-with_read s n r = record s { reads = insert s.reads n r }
-
-abbrev pub without_read : State → ℕ → State
-without_read s n = record s { reads = remove s.reads n }
-
--- the length of the body that brings the slot's chunks
-abbrev pub wire_of : Slot → ℕ
-wire_of s = s.range.byte_range.end - s.range.byte_range.start
-
--- the last link finishes the read
-abbrev pub fetch_done : State → ℕ → ℕ → ℕ → Read → ℕ → Outcome
-fetch_done s read link wire r zero = (Ok (Finished read (assembled r) wire no_note), without_read s read)
-fetch_done s read link wire r (suc left) = (Ok (Fetched read link (suc left) wire no_note), with_read s read r)
-
-abbrev pub fetch_ends : State → ℕ → ℕ → Read → Slot → Chunks → Outcome
-fetch_ends s read link r slot chunks = fetch_done s read link (wire_of slot) (taken r link chunks) (count_left (taken r link chunks).slots)
-
-abbrev pub fetch_cut : State → ℕ → ℕ → Read → Slot → Result Chunks Refusal → Outcome
-fetch_cut s read link r slot (Err why) = refuses s why
-fetch_cut s read link r slot (Ok chunks) = fetch_ends s read link r slot chunks
-
--- the chunks come from the xorb as it is stored at this step
-abbrev pub fetch_slot : State → ℕ → ℕ → Read → Option Slot → Outcome
-fetch_slot s read link r None = refuses s InvalidArguments
-fetch_slot s read link r (Some slot) = fetch_cut s read link r slot (cut_of s.store slot.hash slot.range.chunk_range.start slot.range.chunk_range.end)
-
-abbrev pub fetch_read : State → ℕ → ℕ → Option Read → Outcome
-fetch_read s read link None = refuses s InvalidArguments
-fetch_read s read link (Some r) = fetch_slot s read link r (left_slot r.slots link)
-
-abbrev pub fetch_step : State → ℕ → ℕ → Outcome
-fetch_step s read link = fetch_read s read link (get s.reads read)
-
--- ---- all acts
-
-abbrev pub map_ok : {A B : Type 0} → (A → B) → Result A Refusal → Result B Refusal
+abbrev pub map_ok : {A B E : Type 0} → (A → B) → Result A E → Result B E
 map_ok f (Ok x) = Ok (f x)
 map_ok f (Err why) = Err why
 
@@ -106,15 +54,143 @@ pub record Commands {T : Type 0} (Does : Result T Refusal → StoreModel → Typ
   pub reply : result ≡ map_ok f answer
   pub rest : new ≡ record old { store = new.store }
 
--- the planner answers so over the store, and its answer decides
+abbrev pub was_done : Unit {0} → Reply
+was_done u = Done
+
+-- the answer of a question is the reply
+abbrev pub asks : {T : Type 0} → (T → Reply) → State → Result T Refusal → Outcome
+asks f s answer = (map_ok f answer, s)
+
+-- ---- plans
+
+-- the last number is not given
+abbrev pub used_up : ℕ → Bool
+used_up next = next == 18446744073709551615
+
+-- the read that a plan opens at a moment
+abbrev pub read_of : SecondPlan → Option (Range ℕ _F) → ℕ → OpenRead
+read_of plan range at = record { reader = reading_of plan range; stamp = at }
+
+abbrev pub opened : State → OpenRead → State
+opened s r = record s { reads = insert s.reads s.next r; next = s.next + 1 }
+
+-- a plan without links finishes at once
+abbrev pub open_links : State → SecondPlan → Option (Range ℕ _F) → ℕ → List PlannedLink → Outcome
+open_links s plan range at [] = (Ok (Finished s.next [] 0 no_note), record s { next = s.next + 1 })
+open_links s plan range at (l ∷ ls) = (Ok (Planned s.next V1 plan.offset_into_first_range plan.terms (l ∷ ls)), opened s (read_of plan range at))
+
+-- a plan that gives no read is refused; no store's plan is such a one
+abbrev pub open_plan : State → SecondPlan → Option (Range ℕ _F) → ℕ → Outcome
+open_plan s plan range at =
+    if used_up s.next then refuses s InvalidArguments
+    else if can_open plan then open_links s plan range at (planned_links plan)
+    else refuses s InvalidArguments
+
+-- over what the store answers
+abbrev pub plan_step : State → Option (Range ℕ _F) → ℕ → Result (Option FirstPlan) Refusal → Outcome
+plan_step s range at (Err why) = refuses s why
+plan_step s range at (Ok None) = (Ok NoPlan, s)
+plan_step s range at (Ok (Some plan)) = open_plan s (second_of plan) range at
+
+-- the store answers so, and its answer decides
 pub record PlansBy (old : State) (file : List ℕ) (range : Option (Range ℕ _F)) (at : ℕ) (result : Result Reply Refusal) (new : State) : Type 0 where
-  pub answer : Result (Option PlanModel) Refusal
-  pub plans : PlansFile old.store file range answer
+  pub answer : Result (Option FirstPlan) Refusal
+  pub responds : Responds old.store file range at answer
   pub step : plan_step old range at answer ≡ (result, new)
+
+-- ---- fetches
+
+-- an answer, and the open reads after it
+abbrev pub ReadsOutcome : Type 0
+ReadsOutcome = Result Reply Refusal × Reads
+
+abbrev pub keeps_reads : Reads → Refusal → ReadsOutcome
+keeps_reads reads why = (Err why, reads)
+
+-- the last link finishes the read
+abbrev pub fetch_done : Reads → ℕ → ℕ → ℕ → OpenRead → ℕ → ReadsOutcome
+fetch_done reads read link wire r zero = (Ok (Finished read (bytes_read r.reader) wire no_note), remove reads read)
+fetch_done reads read link wire r (suc left) = (Ok (Fetched read link (suc left) wire no_note), insert reads read r)
+
+abbrev pub with_reader : OpenRead → Reading → OpenRead
+with_reader r reading = record r { reader = reading }
+
+-- over what the reader answers
+abbrev pub fetch_taken : Reads → ℕ → ℕ → ℕ → OpenRead → Result (Unit {0}) Refusal → Reading → ReadsOutcome
+fetch_taken reads read link wire r (Err why) after = keeps_reads reads why
+fetch_taken reads read link wire r (Ok done) after = fetch_done reads read link wire (with_reader r after) (count_left after.links)
+
+-- the reader takes the body of the link, which has so many bytes
+pub record TakesBody (old : Reads) (read link : ℕ) (r : OpenRead) (body : List ℕ) (result : Result Reply Refusal) (new : Reads) : Type 0 where
+  pub answer : Result (Unit {0}) Refusal
+  pub after : Reading
+  pub accepts : Accepts r.reader link [] body answer after
+  pub step : fetch_taken old read link (length body) r answer after ≡ (result, new)
+
+abbrev pub FetchesBody : Reads → ℕ → ℕ → OpenRead → Result (List ℕ) Refusal → Result Reply Refusal → Reads → Type 0
+FetchesBody old read link r (Err why) result new = keeps_reads old why ≡ (result, new)
+FetchesBody old read link r (Ok body) result new = TakesBody old read link r body result new
+
+-- the body comes from the xorb as it is stored at this step; a link of several ranges isn't served yet
+abbrev pub FetchesRange : StoreModel → Reads → ℕ → ℕ → OpenRead → List ℕ → Option XorbRangeDescriptor → Result Reply Refusal → Reads → Type 0
+FetchesRange store old read link r hash None result new = keeps_reads old Other ≡ (result, new)
+FetchesRange store old read link r hash (Some range) result new = FetchesBody old read link r (stored_body store hash (file_range_of range.bytes)) result new
+
+-- the age is above the expiration; a moment before the plan's is no age
+abbrev pub is_expired : ℕ → ℕ → ℕ → Bool
+is_expired at stamp expiration = nat_lt expiration (at - stamp)
+
+abbrev pub FetchesIf : StoreModel → Reads → ℕ → ℕ → OpenRead → ReadLink → Bool → Result Reply Refusal → Reads → Type 0
+FetchesIf store old read link r l true result new = keeps_reads old PresignedUrlExpirationError ≡ (result, new)
+FetchesIf store old read link r l false result new = FetchesRange store old read link r l.hash (only_range l.ranges) result new
+
+abbrev pub FetchesLink : StoreModel → Reads → ℕ → ℕ → ℕ → OpenRead → Option ReadLink → Result Reply Refusal → Reads → Type 0
+FetchesLink store old read link at r None result new = keeps_reads old InvalidArguments ≡ (result, new)
+FetchesLink store old read link at r (Some l) result new = FetchesIf store old read link r l (is_expired at r.stamp store.expiration) result new
+
+abbrev pub FetchesRead : StoreModel → Reads → ℕ → ℕ → ℕ → Option OpenRead → Result Reply Refusal → Reads → Type 0
+FetchesRead store old read link at None result new = keeps_reads old InvalidArguments ≡ (result, new)
+FetchesRead store old read link at (Some r) result new = FetchesLink store old read link at r (left_link r.reader.links link) result new
+
+-- In this order: the read is open and the link is left; the link isn't expired; its xorb is stored and has its bytes; they spell its
+-- chunks.
+pub record Fetches (old : State) (read link at : ℕ) (result : Result Reply Refusal) (new : State) : Type 0 where
+  pub reads : FetchesRead old.store old.reads read link at (get old.reads read) result new.reads
+  pub rest : new ≡ record old { reads = new.reads }
+
+-- ---- abandoned reads
+
+abbrev pub abandon_read : State → ℕ → Option OpenRead → Outcome
+abandon_read s read None = refuses s InvalidArguments
+abandon_read s read (Some r) = (Ok Done, record s { reads = remove s.reads read })
+
+abbrev pub abandon_step : State → ℕ → Outcome
+abandon_step s read = abandon_read s read (get s.reads read)
+
+-- ---- all acts
 
 -- An act may answer this, or be refused so, and leave that state.
 abbrev pub Acts : State → ℕ → Act → Result Reply Refusal → State → Type 0
 Acts old at (UploadXorb hash content) result new = Commands (UploadsXorb old.store hash content) Uploaded old result new
 Acts old at (UploadShard content) result new = Commands (UploadsShard old.store content) ShardTaken old result new
 Acts old at (Plan version file range) result new = PlansBy old file range at result new
-Acts old at (Fetch read link) result new = fetch_step old read link ≡ (result, new)
+Acts old at (Fetch read link) result new = Fetches old read link at result new
+Acts old at (Abandon read) result new = abandon_step old read ≡ (result, new)
+Acts old at (HideFile file) result new = Commands (Is (hide_file old.store file)) was_done old result new
+Acts old at (DeleteShard shard) result new = Commands (Is (delete_shard old.store shard)) was_done old result new
+Acts old at (DeleteXorb xorb) result new = Commands (Is (delete_xorb old.store xorb)) was_done old result new
+Acts old at (SetExpiration millis) result new = Commands (Is (set_expiration old.store millis)) was_done old result new
+Acts old at (FileSize file) result new = asks Size old (file_size old.store file) ≡ (result, new)
+Acts old at (FileData file range) result new = asks Data old (file_data old.store file range) ≡ (result, new)
+
+-- ---- what the code owes
+
+abbrev pub DoesErr : (Result Reply Refusal → State → Type 0) → State → Option Refusal → State → Type 0
+DoesErr P old None new = new ≡ old
+DoesErr P old (Some IOError) new = new ≡ old
+DoesErr P old (Some why) new = P (Err why) new
+
+-- P holds of the answer, its text aside, and of the state after it; where the outside failed or memory was wanting nothing has changed
+abbrev pub Does : (Result Reply Refusal → State → Type 0) → State → Result Reply ClientError → State → Type 0
+Does P old (Ok reply) new = P (Ok reply) new
+Does P old (Err e) new = DoesErr P old (refusal_of e) new

@@ -11,13 +11,16 @@ use Rattle.xet_plan.specs.declared.place.Reach.TheVariants.{Within}
 use Rattle.xet_plan.specs.FileBytes.{Content}
 use Rattle.xet_store.specs.StoreModel.{StoreModel, Chunks, stored, listing, known_of}
 use Rattle.xet_service.specs.declared.step.Act.{Act}
-use Rattle.xet_service.specs.declared.step.Act.TheVariants.{Plan, Fetch}
+use Rattle.xet_service.specs.declared.step.Act.TheVariants.{Plan, Fetch, Abandon}
 use Rattle.xet_service.specs.declared.step.PlanVersion.{PlanVersion}
 use Rattle.xet_service.specs.declared.step.PlanVersion.TheVariants.{V1}
 use Rattle.xet_service.specs.declared.reply.PlannedLink.{PlannedLink}
 use Rattle.xet_service.specs.declared.reply.Reply.{Reply}
 use Rattle.xet_service.specs.declared.reply.Reply.TheVariants.{Planned, Fetched, Finished}
-use Rattle.xet_service.specs.Steps.{used_up, no_note}
+use Rattle.std.specs.FinMap as finmap
+use Rattle.xet_types.specs.Faults.{Rose}
+use Rattle.xet_service.specs.World.{State}
+use Rattle.xet_service.specs.Steps.{used_up, no_note, is_expired}
 use Rattle.xet_service.specs.Runs.{Event}
 
 -- ---- agreement
@@ -30,9 +33,22 @@ AgreesWith m store = (hash : List ℕ) (chunks : Chunks) → stored store hash �
 abbrev pub IsAgreed : Content → List Event → Type 0
 IsAgreed m events = AllByRecursion (λ e. AgreesWith m e.before.state.store × AgreesWith m e.after.state.store) events
 
+-- no read is open
+abbrev pub NoneOpen : State → Type 0
+NoneOpen s = s.reads ≡ finmap.empty
+
+-- no read is open at the start, and no two chunk lists that are met share a name
+pub record IsValidList (m : Content) (start : State) (events : List Event) : Type 0 where
+  pub none_open : NoneOpen start
+  pub agreed : IsAgreed m events
+
 -- ---- valid reads
 
--- The file is live and not empty, the range begins inside, its met segments agree, and a number is left.
+-- the outside doesn't fail
+abbrev pub IsQuiet : Event → Type 0
+IsQuiet e = Rose e.before.faults e.after.faults → ⊥
+
+-- The file is live and not empty, the range begins inside, its met segments agree, a number is left, and the outside doesn't fail.
 pub record IsServed (e : Event) (file : List ℕ) (range : Option (Range ℕ _F)) : Type 0 where
   pub segments : List Segment
   pub clip : Interval
@@ -40,29 +56,33 @@ pub record IsServed (e : Event) (file : List ℕ) (range : Option (Range ℕ _F)
   pub some : 0 < size_of segments
   pub reached : reach (size_of segments) range ≡ Within clip.start clip.end
   pub agree : first_fault (known_of e.before.state.store) clip segments ≡ None
-  pub numbered : used_up e.before.state ≡ false
+  pub numbered : used_up e.before.state.next ≡ false
+  pub quiet : IsQuiet e
 
--- a fetch of a link that is left, while its xorb is stored
-pub record IsFetched (e : Event) (links : List PlannedLink) (left : List Bool) (link : ℕ) : Type 0 where
+-- a fetch of a link that is left and not expired, while its xorb is stored and the outside doesn't fail
+pub record IsFetched (e : Event) (stamp : ℕ) (links : List PlannedLink) (left : List Bool) (link : ℕ) : Type 0 where
   pub planned : PlannedLink
   pub is : slice_get links link ≡ Some planned
   pub left_it : slice_get left link ≡ Some true
   pub chunks : Chunks
   pub there : stored e.before.state.store planned.hash ≡ Some chunks
+  pub fresh : is_expired e.step.at stamp e.before.state.store.expiration ≡ false
+  pub quiet : IsQuiet e
 
 -- a step that names the read is such a fetch
-abbrev pub ValidAt : ℕ → List PlannedLink → List Bool → Event → Act → Type 0
-ValidAt n links left e (Fetch read link) = read ≡ n → IsFetched e links left link
-ValidAt n links left e act = Unit {0}
+abbrev pub ValidAt : ℕ → ℕ → List PlannedLink → List Bool → Event → Act → Type 0
+ValidAt n stamp links left e (Fetch read link) = read ≡ n → IsFetched e stamp links left link
+ValidAt n stamp links left e (Abandon read) = read ≡ n → ⊥
+ValidAt n stamp links left e act = Unit {0}
 
 abbrev pub left_after : ℕ → List Bool → Act → List Bool
 left_after n left (Fetch read link) = if read == n then set left link false else left
 left_after n left act = left
 
 -- from here on, the steps that name the read fetch its links
-abbrev pub IsValidRest : ℕ → List PlannedLink → List Bool → List Event → Type 0
-IsValidRest n links left [] = Unit {0}
-IsValidRest n links left (e ∷ es) = ValidAt n links left e e.step.act × IsValidRest n links (left_after n left e.step.act) es
+abbrev pub IsValidRest : ℕ → ℕ → List PlannedLink → List Bool → List Event → Type 0
+IsValidRest n stamp links left [] = Unit {0}
+IsValidRest n stamp links left (e ∷ es) = ValidAt n stamp links left e e.step.act × IsValidRest n stamp links (left_after n left e.step.act) es
 
 abbrev pub count_true : List Bool → ℕ
 count_true [] = 0
@@ -102,7 +122,7 @@ pub record IsReadWell (e : Event) (es : List Event) : Type 0 where
   pub links : List PlannedLink
   pub reply : e.reply ≡ Planned e.before.state.next V1 offset terms links
   pub some : 0 < length links
-  pub rest : IsValidRest e.before.state.next links (all_left links) es → AnsweredRest e.before.state.next (all_left links) es
+  pub rest : IsValidRest e.before.state.next e.step.at links (all_left links) es → AnsweredRest e.before.state.next (all_left links) es
 
 abbrev pub ReadSucceeds : Event → List Event → Type 0
 ReadSucceeds e es = (version : PlanVersion) (file : List ℕ) (range : Option (Range ℕ _F)) → e.step.act ≡ Plan version file range → IsServed e file range → IsReadWell e es

@@ -1,28 +1,39 @@
 -- The state of a service.
-use Rattle.std.specs.Prelude.{◌≡◌, ◌<◌, ℕ, Some, refl}
+use Rattle.std.specs.Prelude.{◌≡◌, ℕ, ◌<◌, [], ◌∷◌, Some}
 use Rattle.std.specs.Ordering.{nat_cmp}
-use Rattle.std.specs.FinMap.{FinMap, code, get}
+use Rattle.std.specs.List.{AllByRecursion}
+use Rattle.std.specs.FinMap.{FinMap, get}
+use Rattle.xet_types.specs.Ranges.{last_place}
+use Rattle.xet_types.specs.declared.record.XorbRangeDescriptor.{XorbRangeDescriptor}
 use Rattle.std.specs.FinMap as finmap
-use Rattle.std.specs.Coded.{Coded, code_by, coded×, coded_ℕ}
-use Rattle.xet_store.specs.StoreModel.{StoreModel, store_code, empty}
-use Rattle.xet_service.specs.Reads.{Read}
-use Rattle.xet_service.specs.contracts.read.OpenRead.{the_row}
+use Rattle.xet_store.specs.StoreModel.{StoreModel, empty}
+use Rattle.xet_service.specs.declared.read.OpenRead.{OpenRead}
+use Rattle.xet_service.specs.declared.reader.link.ReadLink.{ReadLink}
 
--- a store, the open reads by number, and the next number
+-- the open reads by number
+abbrev pub Reads : Type 0
+Reads = FinMap nat_cmp OpenRead
+
+-- a store, the open reads, and the next number
 pub record State : Type 0 where
   pub store : StoreModel
-  pub reads : FinMap nat_cmp Read
+  pub reads : Reads
   pub next : ℕ
 
-abbrev pub state_code : Coded State
-state_code =
-    code_by (StoreModel × (FinMap nat_cmp Read × ℕ)) (coded× store_code (coded× (code coded_ℕ the_row.coded) coded_ℕ))
-    (λ s. (s.store, (s.reads, s.next))) (λ p. record { store = p.0; reads = p.1.0; next = p.1.1 }) (λ _. refl)
+abbrev pub state : StoreModel → Reads → ℕ → State
+state store reads next = record { store = store; reads = reads; next = next }
 
 -- no xorbs, no shards, no open reads, and the number 0
 abbrev pub start : State
-start = record { store = empty; reads = finmap.empty; next = 0 }
+start = state empty finmap.empty 0
 
--- the numbers of open reads were given
-abbrev pub Numbered : State → Type 0
-Numbered s = (n : ℕ) (r : Read) → get s.reads n ≡ Some r → n < s.next
+-- the link has one range, whose bytes end below the last place
+pub record HasOneRange (l : ReadLink) : Type 0 where
+  pub range : XorbRangeDescriptor
+  pub only : l.ranges ≡ range ∷ []
+  pub below : range.bytes.end < last_place
+
+-- the numbers of open reads were given, and each of their links has one range
+pub record IsInOrder (s : State) : Type 0 where
+  pub numbered : (n : ℕ) (r : OpenRead) → get s.reads n ≡ Some r → n < s.next
+  pub of_one : (n : ℕ) (r : OpenRead) → get s.reads n ≡ Some r → AllByRecursion HasOneRange r.reader.links

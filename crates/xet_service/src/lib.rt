@@ -1,15 +1,16 @@
 //! Steps of readers and writers over a store, their replies, and runs of them.
 #![tactic(auto)]
 
+pub mod body;
 mod links;
 mod read;
 pub mod reader;
 pub mod reply;
 pub mod run;
 pub mod service;
-mod slots;
 pub mod step;
 
+pub use body::{TermBody, fetch_term_body};
 pub use reader::Reader;
 pub use reply::{CacheNote, CacheRefusal, PlannedLink, Reply};
 pub use run::run_steps;

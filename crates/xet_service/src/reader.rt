@@ -2,18 +2,19 @@
 ghost use Rattle.std.specs.Prelude.{◌≡◌, ◌++◌, nat_le, length, IfOk, OnOk, ⊤};
 ghost use Rattle.std.specs.List.{flat_map};
 ghost use Rattle.xet_store.specs.Answered.{Answered};
-ghost use Rattle.xet_service.specs.Reading.{Reading, is_link_left, count_left, Gives, Accepts, got_for, held_text, bytes_read};
+ghost use Rattle.std.specs.Option.{option_copied};
+ghost use Rattle.xet_service.specs.Reading.{Reading, left_link, is_link_left, count_left, give_back, Gives, Accepts, Takes, got_for, held_text, bytes_read};
 ghost use Rattle.xet_service.specs.ReadingPlans.{total_of, Opens};
 
 mod held;
-mod link;
+mod join;
+pub(crate) mod link;
 mod order;
 
-use crate::read::{asked_length, cut};
-use crate::slots::{part, push_chunks};
 use bytes::Bytes;
 use held::{HeldTerm, all_ranges, held_terms};
-use link::{ReadLink, all_apart, count_left, fresh_links, give_terms, put_got};
+use join::{asked_length, cut, part, push_chunks};
+use link::{ReadLink, all_apart, count_left, drop_got, fresh_links, give_terms, put_got};
 use std::alloc::Global;
 use std::marker::Model;
 use xet_types::{
@@ -47,6 +48,17 @@ impl Model for Reader {
 }
 
 impl Reader {
+    /// A read without links. Takes no memory.
+    pub(crate) fn empty(alloc: Global) -> Reader {
+        Reader {
+            terms: Vec::new(alloc),
+            offset: 0,
+            length: None,
+            links: Vec::new(alloc),
+            left: 0,
+        }
+    }
+
     /// Opens the read of a plan, all of whose links are left.
     ///
     /// `InvalidArguments` exactly where a link's chunk ranges aren't sorted by start and disjoint, a term's chunk range lies
@@ -91,6 +103,17 @@ impl Reader {
         match self.links.get(link) {
             Some(link) => link.got.is_none(),
             None => false,
+        }
+    }
+
+    /// The link of this number, where it is left.
+    pub(crate) fn left_link(&self, link: usize) -> Option<&ReadLink>
+        ensures { option_copied result ≡ left_link self.now.links link }
+    {
+        if self.is_left(link) {
+            self.links.get(link)
+        } else {
+            None
         }
     }
 
@@ -139,6 +162,14 @@ impl Reader {
         self.links[link].read(alloc, content_type, body)
     }
 
+    /// Makes a link left again.
+    fn give_back(&mut self, link: usize)
+        ensures { self.new ≡ give_back self.old link }
+    {
+        drop_got(&mut self.links, link);
+        self.left = count_left(&self.links);
+    }
+
     /// The asked bytes: the terms' chunks joined, less the offset, cut to the range's length where a range was given.
     pub fn finish(&self, alloc: Global) -> Result<Bytes, OutOfMemory>
         requires { count_left self.now.links ≡ 0 }
@@ -146,6 +177,30 @@ impl Reader {
     {
         let joined = joined(alloc, &self.links, &self.terms)?;
         cut(Bytes::from_vec(joined)?, self.offset, self.length)
+    }
+}
+
+/// Takes the body of a link as [`Reader::accept`] does; where no link is left then, the asked bytes are the answer. A refusal
+/// leaves the reader as it was, also where there is no memory for the bytes.
+pub(crate) fn take_body(
+    alloc: Global,
+    reader: &mut Reader,
+    link: usize,
+    content_type: &str,
+    body: Bytes,
+) -> Result<Option<Bytes>, ClientError>
+    ensures { Answered result (λ r. Takes reader.old link content_type.now body r reader.new) (reader.new ≡ reader.old) }
+{
+    reader.accept(alloc, link, content_type, body)?;
+    if reader.left() > 0 {
+        return Ok(None);
+    }
+    match reader.finish(alloc) {
+        Ok(bytes) => Ok(Some(bytes)),
+        Err(OutOfMemory) => {
+            reader.give_back(link);
+            Err(ClientError::OutOfMemory)
+        }
     }
 }
 

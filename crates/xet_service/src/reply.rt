@@ -44,8 +44,10 @@ pub enum Reply {
     Uploaded(u64),
     /// The shard was accepted.
     ShardTaken(bool),
-    /// No stored shard lists the file, or the range begins at or past its end.
+    /// No stored shard lists the file, it is hidden, or the range begins at or past its end.
     NoPlan,
+    /// It was done.
+    Done,
     /// A read is open.
     Planned {
         /// Its number.
@@ -76,6 +78,10 @@ pub enum Reply {
         wire: u64,
         cache: CacheNote,
     },
+    /// How many bytes the file has.
+    Size(u64),
+    /// The file's bytes.
+    Data(Octets),
     /// Nothing was changed.
     Refused(Refusal),
 }

@@ -1,20 +1,25 @@
 //! Runs of steps.
-ghost use Rattle.std.specs.Prelude.{◌≡◌, IfOk, OnErr};
-ghost use Rattle.xet_service.specs.Runs.{StepsTo, Runs};
+ghost use Rattle.std.specs.Prelude.{◌≡◌, Some};
+ghost use Rattle.xet_store.specs.StoreModel.{StoreModel};
+ghost use Rattle.xet_store.specs.Told.{Leaves};
+ghost use Rattle.xet_service.specs.World.{state};
+ghost use Rattle.xet_service.specs.Runs.{StepsOrEnds, Runs, reply_to, value_of};
+ghost use Rattle.xet_service.specs.Traces.{sight, SeesOrEnds, Shows};
 ghost use Rattle.xet_service.specs.Headline.{RunsKeeping};
+ghost use Rattle.xet_service.specs.Determined.{IsDetermined};
 
 use crate::reply::Reply;
 use crate::service::ChunkService;
 use crate::step::Step;
 use std::alloc::Global;
-use xet_types::OutOfMemory;
+use xet_store::Store;
+use xet_types::{ClientError, OutOfMemory};
 
-/// Does a step; a refusal is its reply. Where there is no memory, nothing changes.
-fn step(alloc: Global, service: &mut ChunkService, step: &Step) -> Result<Reply, OutOfMemory>
-    ensures ok { IfOk result (λ reply. StepsTo service.old step.now reply service.new) }
-    ensures err { OnErr result (service.new ≡ service.old) }
+/// The reply of an act's answer: a refusal is a reply too.
+fn reply_to(answer: Result<Reply, ClientError>) -> Result<Reply, OutOfMemory>
+    ensures { value_of result ≡ reply_to answer }
 {
-    match service.act(alloc, step.at, &step.act) {
+    match answer {
         Ok(reply) => Ok(reply),
         Err(error) => match error.refusal() {
             Some(why) => Ok(Reply::Refused(why)),
@@ -23,14 +28,28 @@ fn step(alloc: Global, service: &mut ChunkService, step: &Step) -> Result<Reply,
     }
 }
 
-/// Does the steps one after another.
-fn do_steps(
+/// Does a step; a refusal is its reply. Where there is no memory, nothing changes.
+fn step<K: Store>(
     alloc: Global,
-    service: &mut ChunkService,
+    service: &mut ChunkService<K>,
+    step: &Step,
+) -> Result<Reply, OutOfMemory>
+    ensures told { (m : StoreModel) → K.Client.told service.old.store ≡ Some m → Leaves (λ after. StepsOrEnds (state m service.old.reads service.old.next) (K.Client.faults service.old.store) step.now result (state after service.new.reads service.new.next) (K.Client.faults service.new.store)) (K.Client.told service.new.store) }
+    ensures seen { SeesOrEnds (sight service.old.reads service.old.next (K.Client.faults service.old.store)) step.now result (sight service.new.reads service.new.next (K.Client.faults service.new.store)) }
+{
+    let answer = service.act(alloc, step.at, &step.act);
+    reply_to(answer)
+}
+
+/// Does the steps one after another.
+fn do_steps<K: Store>(
+    alloc: Global,
+    service: &mut ChunkService<K>,
     steps: &[Step],
     replies: &mut Vec<Reply>,
 ) -> Result<(), OutOfMemory>
-    ensures { Runs service.old steps.now replies.old.items result replies.new.items service.new }
+    ensures told { (m : StoreModel) → K.Client.told service.old.store ≡ Some m → Leaves (λ after. Runs (state m service.old.reads service.old.next) (K.Client.faults service.old.store) steps.now replies.old.items result replies.new.items (state after service.new.reads service.new.next) (K.Client.faults service.new.store)) (K.Client.told service.new.store) }
+    ensures seen { Shows (sight service.old.reads service.old.next (K.Client.faults service.old.store)) steps.now replies.old.items result replies.new.items (sight service.new.reads service.new.next (K.Client.faults service.new.store)) }
 {
     for next in steps {
         replies.reserve(1)?;
@@ -43,16 +62,25 @@ fn do_steps(
 /// Does steps in order, and appends their replies. Where there is no memory, some first steps were done, and the replies
 /// of these were appended.
 ///
-/// Every run keeps what is promised of reads: a read finishes only with its file's bytes as its plan's store gave them; a
-/// plan's links hold exactly the chunks that meet its range, each once; a refused step changes nothing and has its
-/// stated cause; and a valid read's steps all succeed, the last fetch finishing it.
-pub fn run_steps(
+/// Where the store tells its model, the replies are those of a run, which keeps what is promised of reads: a read finishes only
+/// with its file's bytes as its plan's store gave them; a plan's links hold exactly the chunks that meet its range, each once; a
+/// refused step changes nothing and has its stated cause; and a valid read's steps all succeed, the last fetch finishing it.
+/// Whatever the store tells, a refusal is one of its act's and keeps the open reads, and the outside's comes only where the
+/// store's count of faults rose.
+pub fn run_steps<K: Store>(
     alloc: Global,
-    service: &mut ChunkService,
+    service: &mut ChunkService<K>,
     steps: &[Step],
     replies: &mut Vec<Reply>,
 ) -> Result<(), OutOfMemory>
-    ensures { RunsKeeping service.old steps.now replies.old.items result replies.new.items service.new }
+    ensures told { (m : StoreModel) → K.Client.told service.old.store ≡ Some m → Leaves (λ after. RunsKeeping (state m service.old.reads service.old.next) (K.Client.faults service.old.store) steps.now replies.old.items result replies.new.items (state after service.new.reads service.new.next) (K.Client.faults service.new.store)) (K.Client.told service.new.store) }
+    ensures seen { Shows (sight service.old.reads service.old.next (K.Client.faults service.old.store)) steps.now replies.old.items result replies.new.items (sight service.new.reads service.new.next (K.Client.faults service.new.store)) }
 {
     do_steps(alloc, service, steps, replies)
 }
+
+/// The replies of a run are one function of the store, the open reads and the steps, as far as the outside doesn't fail and
+/// memory isn't wanting.
+pub fn replies_are_determined()
+    ensures { IsDetermined }
+{}

@@ -1,46 +1,60 @@
 //! Requests of readers and writers, over a store.
-ghost use Rattle.std.specs.Prelude.{◌≡◌, Some, true, IfOk, ⊤};
+ghost use Rattle.std.specs.Prelude.{◌≡◌, Some, Err, IfOk, OnErr};
 ghost use Rattle.std.specs.FinMap.{get, insert};
-ghost use Rattle.std.specs.List.{AllByRecursion};
-ghost use Rattle.std.specs.Prelude.{map};
-ghost use Rattle.xet_store.specs.Answered.{Answered};
+ghost use Rattle.std.specs.FinMap as finmap;
+ghost use Rattle.xet_types.specs.Records.{second_of};
+ghost use Rattle.xet_plan.specs.Footers.{FailsOnlyByFault};
+ghost use Rattle.xet_store.specs.StoreModel.{StoreModel};
 ghost use Rattle.xet_store.specs.Commands.{UploadsXorb, UploadsShard};
-ghost use Rattle.xet_service.specs.declared.reply.Reply.TheVariants.{Uploaded, ShardTaken};
-ghost use Rattle.xet_service.specs.Links.{runs_of, slot_of};
-ghost use Rattle.xet_service.specs.Reads.{Read, InOrder, HasChunks, left_slot};
-ghost use Rattle.xet_service.specs.World.{State, start};
-ghost use Rattle.xet_service.specs.Steps.{Commands, PlansBy, Acts, no_note, open_plan, fetch_step, fetch_ends};
-ghost use Rattle.xet_service.specs.Requests.{IsOpenAt, IsWantedAt, Ends};
+ghost use Rattle.xet_store.specs.Told.{Follows, Leaves};
+ghost use Rattle.xet_store.specs.Answered.{Answered};
+ghost use Rattle.xet_store.specs.Refusals.{RefusedBy, OfXorbUpload, OfShardUpload};
+ghost use Rattle.xet_service.specs.declared.reply.Reply.TheVariants.{Uploaded, ShardTaken, Size, Data};
+ghost use Rattle.xet_service.specs.declared.step.Act.TheVariants.{Fetch};
+ghost use Rattle.xet_service.specs.World.{state};
+ghost use Rattle.xet_service.specs.Causes.{IsAsked};
+ghost use Rattle.xet_service.specs.Steps.{Acts, Does, Fetches, PlansBy, map_ok, was_done, no_note, open_plan, abandon_step, is_expired};
+ghost use Rattle.xet_service.specs.Requests.{OfAct, OfPlanAct, OfFetch, OfLink, IsAnswer, IsOpenAt, IsWantedAt, KeepsReads, TakesAt};
 
+use crate::body::{TermBody, fetch_term_body};
 use crate::links::links_of;
 use crate::read::OpenRead;
+use crate::reader::link::{only_range, unlike};
+use crate::reader::{Reader, take_body};
 use crate::reply::{CacheNote, Reply};
 use crate::step::{Act, PlanVersion};
 use bytes::Bytes;
 use std::alloc::Global;
-use std::marker::Model;
 use xet_bytes::ByNumber;
-use xet_plan::Plan;
-use xet_store::MemoryClient;
-use xet_types::{ClientError, FileRange, Items, MerkleHash, Octets, OutOfMemory};
+use xet_store::Store;
+use xet_types::{
+    ClientError, FileRange, Items, MerkleHash, Octets, OutOfMemory, QueryReconstructionResponse,
+    QueryReconstructionResponseV2,
+};
+use xet_xorb::SerializedXorbObject;
 
-/// A store and the open reads of its files, which contracts see as its state.
+/// A store and the open reads of its files.
 #[derive(Drop)]
-pub struct ChunkService {
-    store: MemoryClient,
+pub struct ChunkService<K> {
+    store: K,
     reads: ByNumber<OpenRead>,
     /// The number of the next read.
     next: u64,
 }
 
-impl Model for ChunkService {
-    ghost use Rattle.xet_service.specs.World.{State, state_code};
-
-    ghost Value = { State };
-
-    ghost coded = { state_code };
-
-    ghost view = { λ s. record { store = s.store; reads = s.reads; next = s.next } };
+impl<K> ChunkService<K> {
+    /// A service over a store, without open reads. Takes no memory.
+    pub fn new(alloc: Global, store: K) -> ChunkService<K>
+        ensures store { result.store ≡ store }
+        ensures reads { result.reads ≡ finmap.empty }
+        ensures next { result.next ≡ 0 }
+    {
+        ChunkService {
+            store,
+            reads: ByNumber::new(alloc),
+            next: 0,
+        }
+    }
 }
 
 /// No cache was asked.
@@ -52,6 +66,103 @@ fn no_note() -> CacheNote
         stored: 0,
         refused: None,
     }
+}
+
+/// Whether a link of a plan at the stamp is expired at a moment, all in milliseconds.
+fn is_expired(at: u64, stamp: u64, expiration: u64) -> bool
+    ensures { result ≡ is_expired at stamp expiration }
+{
+    at.saturating_sub(stamp) > expiration
+}
+
+/// The reply of a xorb's upload.
+fn uploaded(answer: Result<u64, ClientError>) -> Result<Reply, ClientError>
+    ensures reply { result ≡ map_ok Uploaded answer }
+    ensures answers { IfOk result IsAnswer }
+{
+    match answer {
+        Ok(length) => Ok(Reply::Uploaded(length)),
+        Err(error) => Err(error),
+    }
+}
+
+/// The reply of a shard's upload.
+fn shard_taken(answer: Result<bool, ClientError>) -> Result<Reply, ClientError>
+    ensures reply { result ≡ map_ok ShardTaken answer }
+    ensures answers { IfOk result IsAnswer }
+{
+    match answer {
+        Ok(taken) => Ok(Reply::ShardTaken(taken)),
+        Err(error) => Err(error),
+    }
+}
+
+/// The reply of a command that answers nothing.
+fn done(answer: Result<(), ClientError>) -> Result<Reply, ClientError>
+    ensures reply { result ≡ map_ok was_done answer }
+    ensures answers { IfOk result IsAnswer }
+{
+    match answer {
+        Ok(()) => Ok(Reply::Done),
+        Err(error) => Err(error),
+    }
+}
+
+/// The reply of a file's size.
+fn size(answer: Result<u64, ClientError>) -> Result<Reply, ClientError>
+    ensures reply { result ≡ map_ok Size answer }
+    ensures answers { IfOk result IsAnswer }
+{
+    match answer {
+        Ok(bytes) => Ok(Reply::Size(bytes)),
+        Err(error) => Err(error),
+    }
+}
+
+/// The reply of a file's bytes.
+fn data(answer: Result<Bytes, ClientError>) -> Result<Reply, ClientError>
+    ensures reply { result ≡ map_ok Data answer }
+    ensures answers { IfOk result IsAnswer }
+{
+    match answer {
+        Ok(bytes) => Ok(Reply::Data(Octets::from_bytes(bytes))),
+        Err(error) => Err(error),
+    }
+}
+
+/// Stores a xorb under a hash.
+fn upload_xorb<K: Store>(
+    alloc: Global,
+    store: &mut K,
+    hash: &MerkleHash,
+    content: &Octets,
+) -> Result<u64, ClientError>
+    ensures told { (m : StoreModel) → K.Client.told store.old ≡ Some m → Follows (UploadsXorb m hash.now content.now) m result (K.Client.told store.new) }
+    ensures refusals { RefusedBy OfXorbUpload result }
+    ensures cause { FailsOnlyByFault (K.Client.faults store.old) (K.Client.faults store.new) result }
+{
+    let xorb = SerializedXorbObject {
+        hash: *hash,
+        serialized_data: content.as_bytes().clone()?,
+        raw_num_bytes: 0,
+        num_chunks: 0,
+        footer_start: None,
+    };
+    store.upload_xorb(alloc, "default", xorb)
+}
+
+/// Accepts a shard.
+fn upload_shard<K: Store>(
+    alloc: Global,
+    store: &mut K,
+    content: &Octets,
+) -> Result<bool, ClientError>
+    ensures told { (m : StoreModel) → K.Client.told store.old ≡ Some m → Follows (UploadsShard m content.now) m result (K.Client.told store.new) }
+    ensures refusals { RefusedBy OfShardUpload result }
+    ensures cause { FailsOnlyByFault (K.Client.faults store.old) (K.Client.faults store.new) result }
+{
+    let content = content.as_bytes().clone()?;
+    store.upload_shard(alloc, content)
 }
 
 /// Puts a read at a number at which one is open, and answers that one. Takes no memory.
@@ -66,76 +177,28 @@ fn replace(reads: &mut ByNumber<OpenRead>, number: u64, read: OpenRead) -> OpenR
     }
 }
 
-impl ChunkService {
-    /// A service of an empty store, without open reads. Takes no memory.
-    pub fn new(alloc: Global) -> ChunkService
-        ensures { result ≡ start }
-    {
-        ChunkService {
-            store: MemoryClient::new(alloc),
-            reads: ByNumber::new(alloc),
-            next: 0,
-        }
-    }
-
-    /// Stores a xorb under a hash, as [`MemoryClient::upload_xorb`] does. A refused upload changes nothing.
-    pub fn upload_xorb(
-        &mut self,
-        alloc: Global,
-        hash: &MerkleHash,
-        content: &Octets,
-    ) -> Result<Reply, ClientError>
-        ensures { Answered result (λ r. Commands (UploadsXorb self.old.store hash.now content.now) Uploaded self.old r self.new) (self.new ≡ self.old) }
-    {
-        let length = self.store.upload_xorb(alloc, hash, content.as_bytes())?;
-        Ok(Reply::Uploaded(length))
-    }
-
-    /// Accepts a shard, as [`MemoryClient::upload_shard`] does. A refused upload changes nothing.
-    pub fn upload_shard(&mut self, alloc: Global, content: &Octets) -> Result<Reply, ClientError>
-        ensures { Answered result (λ r. Commands (UploadsShard self.old.store content.now) ShardTaken self.old r self.new) (self.new ≡ self.old) }
-    {
-        let taken = self.store.upload_shard(alloc, content.as_bytes())?;
-        Ok(Reply::ShardTaken(taken))
-    }
-
-    /// Opens a read of a file, or of a range of its bytes, at a moment in milliseconds.
-    ///
-    /// `NoPlan` where no stored shard lists the file or the range begins at or past its end. Refused as
-    /// [`MemoryClient::plan`] refuses, and with `InvalidArguments` where no number is left. A plan without links finishes
-    /// at once.
-    pub fn plan(
-        &mut self,
-        alloc: Global,
-        file: &MerkleHash,
-        range: Option<FileRange>,
-        at: u64,
-    ) -> Result<Reply, ClientError>
-        ensures { Answered result (λ r. PlansBy self.old file.now range at r self.new) (self.new ≡ self.old) }
-    {
-        let Some(plan) = self.store.plan(alloc, file, range)? else {
-            return Ok(Reply::NoPlan);
-        };
-        self.open(alloc, plan, range, at)
-    }
-
+impl<K> ChunkService<K> {
     /// Opens the read of a plan.
     fn open(
         &mut self,
         alloc: Global,
-        plan: Plan,
+        plan: QueryReconstructionResponse,
         range: Option<FileRange>,
         at: u64,
     ) -> Result<Reply, ClientError>
-        requires order { InOrder (map slot_of (runs_of plan)) }
-        requires some { AllByRecursion HasChunks (map slot_of (runs_of plan)) }
-        ensures { Answered result (λ r. open_plan self.old plan range at ≡ (r, self.new)) (self.new ≡ self.old) }
+        ensures store { self.new.store ≡ self.old.store }
+        ensures opens { (m : StoreModel) → Answered result (λ r. open_plan (state m self.old.reads self.old.next) (second_of plan) range at ≡ (r, state m self.new.reads self.new.next)) (state m self.new.reads self.new.next ≡ state m self.old.reads self.old.next) }
+        ensures refusals { RefusedBy OfLink result }
+        ensures answers { IfOk result IsAnswer }
+        ensures kept { KeepsReads result self.old.reads self.new.reads self.old.next self.new.next }
     {
         let read = self.next;
         if read == u64::MAX {
             return Err(ClientError::InvalidArguments);
         }
-        let links = Items::from_vec(links_of(alloc, &plan, at)?);
+        let plan = QueryReconstructionResponseV2::from_v1(alloc, plan)?;
+        let reader = Reader::open(alloc, &plan, range)?;
+        let links = Items::from_vec(links_of(alloc, plan.xorbs)?);
         if links.is_empty() {
             self.next = read + 1;
             return Ok(Reply::Finished {
@@ -145,92 +208,165 @@ impl ChunkService {
                 cache: no_note(),
             });
         }
-        let offset = plan.offset_into_first_range;
-        let terms = Items::from_vec(Vec::from_slice(alloc, &plan.terms)?);
-        let opened = OpenRead::open(alloc, plan, range, at)?;
-        self.reads.insert(read, opened)?;
+        self.reads.insert(read, OpenRead { reader, stamp: at })?;
         self.next = read + 1;
         Ok(Reply::Planned {
             read,
             version: PlanVersion::V1,
-            offset,
-            terms,
+            offset: plan.offset_into_first_range,
+            terms: Items::from_vec(plan.terms),
             links,
         })
     }
 
+    /// Closes an open read. `InvalidArguments` where none of this number is open. Takes no memory.
+    fn abandon(&mut self, read: u64) -> Result<Reply, ClientError>
+        ensures store { self.new.store ≡ self.old.store }
+        ensures abandons { (m : StoreModel) → Answered result (λ r. abandon_step (state m self.old.reads self.old.next) read ≡ (r, state m self.new.reads self.new.next)) ⊥ }
+        ensures refusals { RefusedBy OfLink result }
+        ensures answers { IfOk result IsAnswer }
+        ensures kept { KeepsReads result self.old.reads self.new.reads self.old.next self.new.next }
+    {
+        let Some(_) = self.reads.remove(read) else {
+            return Err(ClientError::InvalidArguments);
+        };
+        Ok(Reply::Done)
+    }
+}
+
+/// Gives an open read the body of a link that is left, after which so many are left; the last one finishes it. A refused body
+/// changes nothing.
+fn take(
+    alloc: Global,
+    reads: &mut ByNumber<OpenRead>,
+    read: u64,
+    link: u32,
+    left: u32,
+    body: Bytes,
+) -> Result<Reply, ClientError>
+    requires { IsWantedAt reads.old read left }
+    ensures takes { Answered result (λ r. TakesAt reads.old read link body r reads.new) (reads.new ≡ reads.old) }
+    ensures refusals { RefusedBy OfFetch result }
+    ensures answers { IfOk result IsAnswer }
+    ensures kept { OnErr result (reads.new ≡ reads.old) }
+    ensures outside { result ≡ Err ClientError.IOError → ⊥ }
+{
+    let wire = body.len() as u64;
+    let empty = OpenRead {
+        reader: Reader::empty(alloc),
+        stamp: 0,
+    };
+    let mut open = replace(reads, read, empty);
+    match take_body(alloc, &mut open.reader, link as usize, "", body) {
+        Ok(None) => {
+            replace(reads, read, open);
+            Ok(Reply::Fetched {
+                read,
+                link,
+                left,
+                wire,
+                cache: no_note(),
+            })
+        }
+        Ok(Some(bytes)) => {
+            reads.remove(read);
+            Ok(Reply::Finished {
+                read,
+                bytes: Octets::from_bytes(bytes),
+                wire,
+                cache: no_note(),
+            })
+        }
+        Err(error) => {
+            replace(reads, read, open);
+            Err(error)
+        }
+    }
+}
+
+impl<K: Store> ChunkService<K> {
+    /// Opens a read of a file, or of a range of its bytes, at a moment in milliseconds.
+    ///
+    /// `NoPlan` where the file isn't live or the range begins at or past its end. Refused as the store's plan is, and then with
+    /// `InvalidArguments` where no number is left. A plan without links finishes at once.
+    fn plan(
+        &mut self,
+        alloc: Global,
+        file: &MerkleHash,
+        range: Option<FileRange>,
+        at: u64,
+    ) -> Result<Reply, ClientError>
+        ensures told { (m : StoreModel) → K.Client.told self.old.store ≡ Some m → Leaves (λ after. Does (PlansBy (state m self.old.reads self.old.next) file.now range at) (state m self.old.reads self.old.next) result (state after self.new.reads self.new.next)) (K.Client.told self.new.store) }
+        ensures refusals { RefusedBy OfPlanAct result }
+        ensures answers { IfOk result IsAnswer }
+        ensures kept { KeepsReads result self.old.reads self.new.reads self.old.next self.new.next }
+        ensures cause { FailsOnlyByFault (K.Client.faults self.old.store) (K.Client.faults self.new.store) result }
+    {
+        let Some(plan) = self.store.get_reconstruction_v1(alloc, file, range, at)? else {
+            return Ok(Reply::NoPlan);
+        };
+        self.open(alloc, plan, range, at)
+    }
+
     /// Fetches a link of an open read, and finishes the read with the last one.
     ///
-    /// `InvalidArguments` where the read isn't open or the link isn't left; then `XORBNotFound` where the xorb isn't
-    /// stored now, and `InvalidRange` where it hasn't the chunks. A refused fetch changes nothing.
-    pub fn fetch(&mut self, alloc: Global, read: u64, link: u32) -> Result<Reply, ClientError>
-        ensures { Answered result (λ r. fetch_step self.old read link ≡ (r, self.new)) (self.new ≡ self.old) }
+    /// `InvalidArguments` where the read isn't open or the link isn't left; then `PresignedUrlExpirationError` where the link is
+    /// expired; then as [`fetch_term_body`] and [`Reader::accept`] refuse it. A refused fetch changes nothing.
+    fn fetch(&mut self, alloc: Global, read: u64, link: u32, at: u64) -> Result<Reply, ClientError>
+        ensures told { (m : StoreModel) → K.Client.told self.old.store ≡ Some m → Leaves (λ after. Does (Fetches (state m self.old.reads self.old.next) read link at) (state m self.old.reads self.old.next) result (state after self.new.reads self.new.next)) (K.Client.told self.new.store) }
+        ensures asked { (m : StoreModel) → K.Client.told self.old.store ≡ Some m → result ≡ Err ClientError.IOError → IsAsked (state m self.old.reads self.old.next) at (Fetch read link) }
+        ensures refusals { RefusedBy OfFetch result }
+        ensures answers { IfOk result IsAnswer }
+        ensures kept { KeepsReads result self.old.reads self.new.reads self.old.next self.new.next }
+        ensures cause { FailsOnlyByFault (K.Client.faults self.old.store) (K.Client.faults self.new.store) result }
     {
         let Some(open) = self.reads.get(read) else {
             return Err(ClientError::InvalidArguments);
         };
-        let Some(wanted) = open.left_slot(link) else {
+        let Some(wanted) = open.reader.left_link(link as usize) else {
             return Err(ClientError::InvalidArguments);
         };
-        let chunks = self
-            .store
-            .cut(alloc, &wanted.hash, wanted.range.chunk_range)?;
-        let bytes = wanted.range.byte_range;
-        let wire = bytes.end.saturating_sub(bytes.start);
-        let reply = self.take(alloc, read, link, wire, chunks)?;
-        Ok(reply)
-    }
-
-    /// Gives an open read the chunks of a link that is left. Where there is no memory, all stays as it was.
-    fn take(
-        &mut self,
-        alloc: Global,
-        read: u64,
-        link: u32,
-        wire: u64,
-        chunks: Items<Bytes>,
-    ) -> Result<Reply, OutOfMemory>
-        requires { IsWantedAt self.old.reads read link }
-        ensures { Ends self.old read link wire chunks result self.new }
-    {
-        let mut open = replace(&mut self.reads, read, OpenRead::empty(alloc));
-        match open.take(alloc, link, chunks) {
-            Ok(None) => {
-                let left = open.left();
-                replace(&mut self.reads, read, open);
-                Ok(Reply::Fetched {
-                    read,
-                    link,
-                    left,
-                    wire,
-                    cache: no_note(),
-                })
-            }
-            Ok(Some(bytes)) => {
-                self.reads.remove(read);
-                Ok(Reply::Finished {
-                    read,
-                    bytes,
-                    wire,
-                    cache: no_note(),
-                })
-            }
-            Err(error) => {
-                replace(&mut self.reads, read, open);
-                Err(error)
-            }
+        if is_expired(at, open.stamp, self.store.fetch_term_url_expiration()) {
+            return Err(ClientError::PresignedUrlExpirationError);
         }
+        let Ok(left) = u32::try_from(open.reader.left().saturating_sub(1)) else {
+            return Err(ClientError::OutOfMemory);
+        };
+        let Some(range) = only_range(wanted.ranges.as_slice()) else {
+            return Err(unlike(alloc));
+        };
+        let range = FileRange::from(range.bytes);
+        let TermBody { body, .. } = fetch_term_body(alloc, &mut self.store, &wanted.hash, range)?;
+        take(alloc, &mut self.reads, read, link, left, body)
     }
 
     /// Does what is asked at a moment in milliseconds. A refused act changes nothing.
     pub fn act(&mut self, alloc: Global, at: u64, act: &Act) -> Result<Reply, ClientError>
-        ensures { Answered result (λ r. Acts self.old at act.now r self.new) (self.new ≡ self.old) }
+        ensures told { (m : StoreModel) → K.Client.told self.old.store ≡ Some m → Leaves (λ after. Does (Acts (state m self.old.reads self.old.next) at act.now) (state m self.old.reads self.old.next) result (state after self.new.reads self.new.next)) (K.Client.told self.new.store) }
+        ensures asked { (m : StoreModel) → K.Client.told self.old.store ≡ Some m → result ≡ Err ClientError.IOError → IsAsked (state m self.old.reads self.old.next) at act.now }
+        ensures refusals { RefusedBy (OfAct act.now) result }
+        ensures answers { IfOk result IsAnswer }
+        ensures kept { KeepsReads result self.old.reads self.new.reads self.old.next self.new.next }
+        ensures cause { FailsOnlyByFault (K.Client.faults self.old.store) (K.Client.faults self.new.store) result }
     {
         match act {
-            Act::UploadXorb { hash, content } => self.upload_xorb(alloc, hash, content),
-            Act::UploadShard { content } => self.upload_shard(alloc, content),
+            Act::UploadXorb { hash, content } => {
+                uploaded(upload_xorb(alloc, &mut self.store, hash, content))
+            }
+            Act::UploadShard { content } => {
+                shard_taken(upload_shard(alloc, &mut self.store, content))
+            }
             Act::Plan { file, range, .. } => self.plan(alloc, file, *range, at),
-            Act::Fetch { read, link } => self.fetch(alloc, *read, *link),
+            Act::Fetch { read, link } => self.fetch(alloc, *read, *link, at),
+            Act::Abandon { read } => self.abandon(*read),
+            Act::HideFile { file } => done(self.store.delete_file_entry(alloc, file)),
+            Act::DeleteShard { shard } => done(self.store.delete_shard_entry(alloc, shard)),
+            Act::DeleteXorb { xorb } => done(self.store.delete_xorb(alloc, xorb)),
+            Act::SetExpiration { millis } => {
+                done(self.store.set_fetch_term_url_expiration(*millis))
+            }
+            Act::FileSize { file } => size(self.store.get_file_size(alloc, file)),
+            Act::FileData { file, range } => data(self.store.get_file_data(alloc, file, *range)),
         }
     }
 }

@@ -34,6 +34,39 @@ pub enum Act {
         /// The link's number in its plan.
         link: u32,
     },
+    /// Closes an open read that isn't finished.
+    Abandon {
+        /// The read's number.
+        read: u64,
+    },
+    /// Hides a file until a shard that lists it is accepted.
+    HideFile {
+        file: MerkleHash,
+    },
+    /// Takes a shard out.
+    DeleteShard {
+        /// The shard's name.
+        shard: MerkleHash,
+    },
+    /// Takes a xorb out.
+    DeleteXorb {
+        /// The xorb's name.
+        xorb: MerkleHash,
+    },
+    /// Sets the age above which a link is expired.
+    SetExpiration {
+        /// In milliseconds.
+        millis: u64,
+    },
+    /// Asks how many bytes a file has.
+    FileSize {
+        file: MerkleHash,
+    },
+    /// Asks for a file's bytes, or for those in a range.
+    FileData {
+        file: MerkleHash,
+        range: Option<FileRange>,
+    },
 }
 
 /// An act, and when it is asked.

@@ -37,11 +37,11 @@ chunks_in_text (c ∷ cs) rest =
 
 -- ---- a chunk at its place
 
-more_before : (n : ℕ) (ns : List ℕ) (k : ℕ) → packed_before (n ∷ ns) (suc k) ≡ (8 + n) + packed_before ns k
+pub more_before : (n : ℕ) (ns : List ℕ) (k : ℕ) → packed_before (n ∷ ns) (suc k) ≡ (8 + n) + packed_before ns k
 more_before n ns k = let s : sum (n ∷ take k ns) ≡ n + sum (take k ns) = sum-cons n (take k ns) in omega arith
 
 -- the text from a chunk's header on
-from_chunk : (cs : Chunks) (rest : List ℕ) (k : ℕ) → k ≤ length cs → drop (packed_before (lengths_of cs) k) (xorb_text cs ++ rest) ≡ xorb_text (drop k cs) ++ rest
+pub from_chunk : (cs : Chunks) (rest : List ℕ) (k : ℕ) → k ≤ length cs → drop (packed_before (lengths_of cs) k) (xorb_text cs ++ rest) ≡ xorb_text (drop k cs) ++ rest
 from_chunk cs rest zero l = refl
 from_chunk [] rest (suc k) l = let no : ⊥ = omega (arith, l) in absurd no
 from_chunk (c ∷ cs) rest (suc k) l =
@@ -114,10 +114,10 @@ chunk_within cs rest k d l =
 -- ---- a stored xorb
 
 -- what stands behind the chunks
-tail_of : Chunks → List ℕ
+pub tail_of : Chunks → List ℕ
 tail_of cs = footer_bytes (object_of cs) ++ le32 (44 + 40 * length cs)
 
-text_is : (cs : Chunks) → xorb_bytes cs ≡ xorb_text cs ++ tail_of cs
+pub text_is : (cs : Chunks) → xorb_bytes cs ≡ xorb_text cs ++ tail_of cs
 unfolding xorb_bytes tail_of
 text_is cs = refl
 

@@ -8,7 +8,7 @@ use Rattle.xet_types.specs.declared.range._F.{_F}
 use Rattle.xet_types.specs.Records.{FetchInfo, FirstPlan}
 use Rattle.xet_plan.specs.declared.runs.MergedRange.{MergedRange}
 use Rattle.xet_plan.specs.Plans.{PlanModel}
-use Rattle.xet_store.specs.StoreModel.{StoreModel}
+use Rattle.xet_store.specs.StoreModel.{StoreModel, IsSound}
 use Rattle.xet_store.specs.Plans.{PlansFile}
 
 -- the text of a link of version 1: the hash, where the bytes begin, where they end, which is excluded, and the moment
@@ -36,8 +36,9 @@ response_of at (Ok None) = Ok None
 response_of at (Ok (Some plan)) = Ok (Some (first_of at plan))
 response_of at (Err why) = Err why
 
--- the answer is that of the file's plan, with its links at this moment
+-- The answer is that of the file's plan, with its links at this moment; and each stored chunk list is well formed and has its name.
 pub record Responds (m : StoreModel) (file : List ℕ) (range : Option (Range ℕ _F)) (at : ℕ) (result : Result (Option FirstPlan) Refusal) : Type 0 where
   pub answer : Result (Option PlanModel) Refusal
   pub plans : PlansFile m file range answer
   pub response : result ≡ response_of at answer
+  pub sound : IsSound m

@@ -6,6 +6,7 @@ use std::process::Abort;
 use std::test::Fail;
 use xet_types::{MemorySink, MemorySource};
 
+mod between;
 mod failing;
 mod fetched;
 mod plainly;
@@ -19,7 +20,7 @@ type Row = (
 );
 
 /// What a name stands for: the file's hash, the beginning of a shard that lists one file, what is said of a cache that isn't
-/// there, and the hashes of xorbs.
+/// there, the name of the shard that lists the file as the chunk `abc`, and the hashes of xorbs.
 fn meaning(name: &str) -> &'static str {
     match name {
         "F" => "aaaaaaaaaaaaaaaaaaaaaaaaaaaaaaaaaaaaaaaaaaaaaaaaaaaaaaaaaaaaaaaa",
@@ -32,6 +33,7 @@ fn meaning(name: &str) -> &'static str {
         "small" => "729d753172686eaeccd2b14a738f264ad38fe80abaa43564c308763e767ca8e4",
         "four" => "e7d817dbeecae3fdac7cd97c0ae733b22b424ecf7d789dbafe8b45d649f7c0e0",
         "two" => "e197a5824844fdd9cee26de537c4efe027f26af28d2222d15190b244f96a37f0",
+        "listing" => "a905311b7c087392704783d93d717545e96ba56d29b179bf166903b7f08d8671",
         "large" => "78a7fd1d263f80045e51870c02b5919b6d5a5fc5562d4ccdc00a5407670d0bbc",
         _ => "?",
     }

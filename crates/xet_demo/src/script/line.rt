@@ -3,7 +3,7 @@ ghost use Rattle.std.specs.Prelude.{◌≡◌, IfOk};
 ghost use Rattle.std.specs.List.{list_all};
 ghost use Rattle.std.specs.Char.{is_ascii};
 ghost use Rattle.xet_demo.specs.Words.{parts_of};
-ghost use Rattle.xet_demo.specs.Lines.{act_of, one_word, two_words, words_from, words_line, xorb_act, shard_act, plan_act, fetch_act, ascii_line, line_of};
+ghost use Rattle.xet_demo.specs.Lines.{act_of, short_word, one_word, two_words, words_from, words_line, xorb_act, shard_act, plan_act, fetch_act, abandon_act, hide_act, delete_shard_act, delete_xorb_act, expire_act, size_act, data_act, ascii_line, line_of};
 
 use super::digits::hash;
 use super::word::{cut, number, octets, range, small_number};
@@ -62,6 +62,77 @@ fn fetch(read: &[u8], link: &[u8]) -> Option<Act>
     Some(Act::Fetch { read, link })
 }
 
+fn abandon(read: &[u8]) -> Option<Act>
+    ensures { result ≡ abandon_act read.now }
+{
+    let read = number(read)?;
+    Some(Act::Abandon { read })
+}
+
+fn hide(file: &[u8]) -> Option<Act>
+    ensures { result ≡ hide_act file.now }
+{
+    let file = hash(file)?;
+    Some(Act::HideFile { file })
+}
+
+fn delete_shard(name: &[u8]) -> Option<Act>
+    ensures { result ≡ delete_shard_act name.now }
+{
+    let shard = hash(name)?;
+    Some(Act::DeleteShard { shard })
+}
+
+fn delete_xorb(name: &[u8]) -> Option<Act>
+    ensures { result ≡ delete_xorb_act name.now }
+{
+    let xorb = hash(name)?;
+    Some(Act::DeleteXorb { xorb })
+}
+
+fn expire(millis: &[u8]) -> Option<Act>
+    ensures { result ≡ expire_act millis.now }
+{
+    let millis = number(millis)?;
+    Some(Act::SetExpiration { millis })
+}
+
+fn size(file: &[u8]) -> Option<Act>
+    ensures { result ≡ size_act file.now }
+{
+    let file = hash(file)?;
+    Some(Act::FileSize { file })
+}
+
+fn data(file: &[u8], bytes: &[u8]) -> Option<Act>
+    ensures { result ≡ data_act file.now bytes.now }
+{
+    let file = hash(file)?;
+    let range = range(bytes)?;
+    Some(Act::FileData { file, range })
+}
+
+/// The act of a command with one short word.
+fn short_word(command: &[u8], word: &[u8]) -> Option<Act>
+    ensures { result ≡ short_word command.now word.now }
+{
+    if command == b"abandon".as_slice() {
+        abandon(word)
+    } else if command == b"hide".as_slice() {
+        hide(word)
+    } else if command == b"delete-shard".as_slice() {
+        delete_shard(word)
+    } else if command == b"delete-xorb".as_slice() {
+        delete_xorb(word)
+    } else if command == b"expire".as_slice() {
+        expire(word)
+    } else if command == b"size".as_slice() {
+        size(word)
+    } else {
+        None
+    }
+}
+
 /// The act of a command with one word.
 fn one_word(alloc: Global, command: &[u8], word: &[u8]) -> Result<Option<Act>, OutOfMemory>
     ensures { IfOk result (λ act. act ≡ one_word command.now word.now) }
@@ -69,7 +140,7 @@ fn one_word(alloc: Global, command: &[u8], word: &[u8]) -> Result<Option<Act>, O
     if command == b"shard".as_slice() {
         shard(alloc, word)
     } else {
-        Ok(None)
+        Ok(short_word(command, word))
     }
 }
 
@@ -88,6 +159,8 @@ fn two_words(
         Ok(plan(PlanVersion::V1, first, second))
     } else if command == b"fetch".as_slice() {
         Ok(fetch(first, second))
+    } else if command == b"data".as_slice() {
+        Ok(data(first, second))
     } else {
         Ok(None)
     }

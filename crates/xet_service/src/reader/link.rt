@@ -4,12 +4,12 @@ ghost use Rattle.xet_types.specs.RecordMaps.{listed};
 ghost use Rattle.xet_types.specs.Faults.{refusal_of};
 ghost use Rattle.xet_types.specs.declared.error.Refusal.TheVariants.{Other};
 ghost use Rattle.xet_store.specs.Answered.{Answered};
-ghost use Rattle.xet_service.specs.Reading.{count_left, with_got, has_length, have_lengths, fits, only_range, IsMultipart, BringsOne, Brings, IsOne};
+ghost use Rattle.xet_service.specs.Reading.{count_left, with_got, without_got, bytes_in, cut_of_range, has_length, have_lengths, fits, only_range, IsMultipart, BringsOne, BringsPlain, Brings, IsOne};
 ghost use Rattle.xet_service.specs.ReadingPlans.{fresh_link, xorb_links, fresh_links, are_apart, all_apart, with_terms};
 ghost use Rattle.xet_service.specs.ReadingSteps.{give_term};
 
 use super::held::HeldTerm;
-use crate::slots::part;
+use super::join::part;
 use bytes::Bytes;
 use memchr::memmem;
 use std::alloc::Global;
@@ -135,6 +135,15 @@ pub fn put_got(links: &mut Vec<ReadLink>, at: usize, got: Items<Items<Bytes>>)
     }
 }
 
+/// Takes the chunks that a link brought out of it.
+pub fn drop_got(links: &mut Vec<ReadLink>, at: usize)
+    ensures { links.new.items ≡ without_got links.old.items at (slice_get links.old.items at) }
+{
+    if at < links.len() {
+        links[at].got = None;
+    }
+}
+
 /// How many links are left.
 pub fn count_left(links: &[ReadLink]) -> usize
     ensures { result ≡ count_left links.now }
@@ -203,7 +212,7 @@ fn fits(range: &XorbRangeDescriptor, held: &[HeldTerm], chunks: &[Bytes]) -> boo
 }
 
 /// The one range of a link that has one.
-fn only_range(ranges: &[XorbRangeDescriptor]) -> Option<XorbRangeDescriptor>
+pub fn only_range(ranges: &[XorbRangeDescriptor]) -> Option<XorbRangeDescriptor>
     ensures { result ≡ only_range ranges.now }
 {
     match ranges {
@@ -213,7 +222,7 @@ fn only_range(ranges: &[XorbRangeDescriptor]) -> Option<XorbRangeDescriptor>
 }
 
 /// The refusal of a body that isn't the link's.
-fn unlike(alloc: Global) -> ClientError
+pub fn unlike(alloc: Global) -> ClientError
     ensures { IfSome (refusal_of result) (λ why. why ≡ Other) }
 {
     match String::from_str(alloc, "the body isn't the link's") {

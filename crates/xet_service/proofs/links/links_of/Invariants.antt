@@ -1,8 +1,8 @@
-use Rattle.std.proofs.Common.{◌≡◌, take, map}
+use Rattle.std.proofs.Common.{◌≡◌, ◌++◌, map}
 use Rattle.std.specs.List.{flat_map}
-use Rattle.xet_plan.specs.Merging.{ranges_shown}
-use Rattle.xet_service.specs.Links.{group_runs, link_of}
+use Rattle.xet_types.specs.RecordMaps.{listed}
+use Rattle.xet_service.specs.Links.{xorb_links}
 use Rattle.xet_service.proofs.links.links_of.Given as goal
 
-abbrev pub invariant-loop-group : goal.invariant-loop-group
-invariant-loop-group l = l.links.items ≡ map (link_of l.at) (flat_map group_runs (map ranges_shown (take l.group-index l.group-items)))
+abbrev pub invariant-loop-hash : goal.invariant-loop-hash
+invariant-loop-hash l = l.links.items ++ flat_map xorb_links (map listed l.hash-iterator) ≡ flat_map xorb_links (map listed l.fn.xorbs.entries)

@@ -1,6 +1,6 @@
-use Rattle.std.proofs.Common.{◌≡◌, ◌++◌, take, map}
-use Rattle.xet_service.specs.Links.{group_runs, link_of}
+use Rattle.std.proofs.Common.{◌≡◌, ◌++◌, map}
+use Rattle.xet_service.specs.Links.{planned_link}
 use Rattle.xet_service.proofs.links.push_links.Given as goal
 
-abbrev pub invariant-loop-range : goal.invariant-loop-range
-invariant-loop-range l = l.links.items ≡ l.fn.links.items ++ map (link_of l.at) (group_runs (l.fn.hash, take l.range-index l.ranges))
+abbrev pub invariant-loop-fetch : goal.invariant-loop-fetch
+invariant-loop-fetch l = l.links.items ++ map (planned_link l.fn.hash) l.fetch-iterator.rest.items ≡ l.fn.links.items ++ map (planned_link l.fn.hash) l.fn.fetches.items
