@@ -1,7 +1,7 @@
 //! Writing fields of bytes at the end of a text.
 //!
 //! Where there is no memory, the text stays as it was.
-ghost use Rattle.std.specs.Prelude.{◌≡◌, ◌++◌, ◌<◌, ◌^◌, OnOk, OnErr};
+ghost use Rattle.std.specs.Prelude.{◌≡◌, ◌++◌, ◌<◌, ◌^◌, OnOk, OnErr, length};
 ghost use Rattle.xet_bytes.specs.Fields.{le24, le32, le64};
 
 use xet_types::{MerkleHash, OutOfMemory};
@@ -21,6 +21,7 @@ pub fn put_u24(out: &mut Vec<u8>, n: u32) -> Result<(), OutOfMemory>
 #[tactic(auto, unfolding(crate::specs::Fields::le32))]
 pub fn put_u32(out: &mut Vec<u8>, n: u32) -> Result<(), OutOfMemory>
     ensures ok { OnOk result (out.new.items ≡ out.old.items ++ le32 n) }
+    ensures fits { n < 2 ^ 32 }
     ensures err { OnErr result (out.new.items ≡ out.old.items) }
 {
     out.extend_from_slice(&n.to_le_bytes())?;
@@ -31,6 +32,7 @@ pub fn put_u32(out: &mut Vec<u8>, n: u32) -> Result<(), OutOfMemory>
 #[tactic(auto, unfolding(crate::specs::Fields::le64))]
 pub fn put_u64(out: &mut Vec<u8>, n: u64) -> Result<(), OutOfMemory>
     ensures ok { OnOk result (out.new.items ≡ out.old.items ++ le64 n) }
+    ensures fits { n < 2 ^ 64 }
     ensures err { OnErr result (out.new.items ≡ out.old.items) }
 {
     out.extend_from_slice(&n.to_le_bytes())?;
@@ -40,6 +42,7 @@ pub fn put_u64(out: &mut Vec<u8>, n: u64) -> Result<(), OutOfMemory>
 /// Adds the 32 bytes of a hash.
 pub fn put_hash(out: &mut Vec<u8>, hash: &MerkleHash) -> Result<(), OutOfMemory>
     ensures ok { OnOk result (out.new.items ≡ out.old.items ++ hash.now) }
+    ensures fits { length hash.now ≡ 32 }
     ensures err { OnErr result (out.new.items ≡ out.old.items) }
 {
     out.extend_from_slice(hash.as_bytes())?;

@@ -11,7 +11,6 @@ use Rattle.std.proofs.lemmas.List.{reverse-append, length-reverse, length-map, m
 use Rattle.xet_bytes.proofs.Maps.{hash_exact, hash_total}
 use Rattle.xet_types.specs.Names.{hash_cmp}
 use Rattle.xet_shard.specs.Listings.{ShardModel}
-use Rattle.xet_shard.specs.ShardBytes.{IsLimited}
 use Rattle.xet_shard.specs.Canonical.{file_hash_of, xorb_hash_of, under_hashes, last_entries, last_by_hash, canonical_of, IsCanonical}
 
 -- ---- one listing more
@@ -200,19 +199,3 @@ canonical_of-again s h =
     let files = last_by_hash-again file_hash_of s.files h.files in
     let xorbs = last_by_hash-again xorb_hash_of s.xorbs h.xorbs in
     λ i. record { expiry = (sym h.no_expiry) i; files = files i; xorbs = xorbs i }
-
--- twice is once
-pub canonical_of-twice : (s : ShardModel) → canonical_of (canonical_of s) ≡ canonical_of s
-canonical_of-twice s = canonical_of-again (canonical_of s) (IsCanonical-canonical_of s)
-
-short_rises : {X : Type 0} (hash_of : X → List ℕ) (xs : List X) → length xs ≤ 1 → IsStrictlySortedBy hash_cmp (map hash_of xs)
-unfolding IsStrictlySortedBy
-short_rises hash_of [] h = tt
-short_rises hash_of (x ∷ []) h = (tt, tt)
-short_rises hash_of (x ∷ y ∷ xs) h = absurd (omega arith)
-
--- the canonical form of a shard of one file and no xorbs is the shard without its expiry
-pub canonical_of-limited : (s : ShardModel) → IsLimited s → canonical_of s ≡ record s { expiry = 0 }
-canonical_of-limited s h =
-    canonical_of-again (record s { expiry = 0 })
-    (record { no_expiry = refl; files = short_rises file_hash_of s.files (omega (arith, h.one_file)); xorbs = short_rises xorb_hash_of s.xorbs (omega (arith, h.no_xorbs)) })

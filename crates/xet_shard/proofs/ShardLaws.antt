@@ -1,15 +1,15 @@
 -- A shard that is read is the one that was written, and what was written is read again.
-use Rattle.std.proofs.Common.{◌≡◌, ℕ, ◌<◌, ◌^◌, List, length, Some, refl}
+use Rattle.std.proofs.Common.{◌≡◌, ℕ, ◌<◌, ◌^◌, List, length, Some, refl, sym, ◌∙◌}
 use Rattle.std.specs.Prelude.{codes}
 use Rattle.std.specs.List.{AllByRecursion}
 use Rattle.xet_bytes.specs.Fields.{le32}
 use Rattle.xet_bytes.specs.Reading.{whole_of}
-use Rattle.xet_bytes.proofs.FieldLaws.{IsBytes, IsField, bytes_field, le32_field, le64_field, literal_field, pair_field, view_field, fits_field, counted_field, whole_takes, whole_again}
+use Rattle.xet_bytes.proofs.FieldLaws.{IsBytes, IsField, some_is, bytes_field, le32_field, le64_field, literal_field, pair_field, view_field, fits_field, counted_field, whole_takes, whole_again}
 use Rattle.xet_shard.specs.declared.listing.Segment.{Segment}
 use Rattle.xet_shard.specs.declared.listing.ChunkListing.{ChunkListing}
 use Rattle.xet_shard.specs.Values.{Listing, ListedXorb}
 use Rattle.xet_shard.specs.Listings.{ShardModel}
-use Rattle.xet_shard.specs.ShardBytes.{segment_bytes, listing_bytes, chunk_bytes, listed_xorb_bytes, shard_bytes, IsSegment, IsListing, IsChunkListing, IsListedXorb, IsShard, IsTextOf}
+use Rattle.xet_shard.specs.ShardBytes.{segment_bytes, listing_bytes, chunk_bytes, listed_xorb_bytes, shard_bytes, IsSegment, IsListing, IsChunkListing, IsListedXorb, IsShard, IsReadAs, IsTextOfOne}
 use Rattle.xet_shard.specs.ShardReading.{segment_of, segment_at, listing_of, listing_at, chunk_of, chunk_at, listed_xorb_of, listed_xorb_at, shard_of, shard_at}
 
 pub segment_field : IsField segment_at segment_bytes IsSegment
@@ -59,10 +59,19 @@ shard_field =
     parts_field
 
 -- the same, all of the bytes
-pub text_from_read : (bytes : List ℕ) (s : ShardModel) → IsBytes bytes → whole_of shard_at bytes ≡ Some s → IsTextOf bytes s
+pub text_from_read : (bytes : List ℕ) (s : ShardModel) → IsBytes bytes → whole_of shard_at bytes ≡ Some s → IsReadAs bytes s
 text_from_read bytes s fits e =
     let h = whole_takes shard_at shard_bytes IsShard shard_field bytes s fits e in
     record { text = h.0; fits = h.1 }
 
-pub read_from_text : (bytes : List ℕ) (s : ShardModel) → IsTextOf bytes s → whole_of shard_at bytes ≡ Some s
+pub read_from_text : (bytes : List ℕ) (s : ShardModel) → IsReadAs bytes s → whole_of shard_at bytes ≡ Some s
 read_from_text bytes s h = rw h.text (whole_again shard_at shard_bytes IsShard shard_field s h.fits)
+
+-- what is written is read back, and only so
+pub read_back : (bytes : List ℕ) (s : ShardModel) → bytes ≡ shard_bytes s → IsShard s → IsTextOfOne bytes s
+read_back bytes s text fits =
+    let read : IsReadAs bytes s = record { text = text; fits = fits } in
+    record {
+      read = read;
+      alone = λ other g. some_is other s (sym (read_from_text bytes other g) ∙ read_from_text bytes s read);
+    }

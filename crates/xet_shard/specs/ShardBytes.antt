@@ -58,23 +58,18 @@ pub record IsShard (s : ShardModel) : Type 0 where
   pub xorbs : AllByRecursion IsListedXorb s.xorbs
 
 -- the bytes are the text of the shard
-pub record IsTextOf (bytes : List ℕ) (s : ShardModel) : Type 0 where
+pub record IsReadAs (bytes : List ℕ) (s : ShardModel) : Type 0 where
   pub text : bytes ≡ shard_bytes s
   pub fits : IsShard s
 
+-- the bytes are the text of the shard, and of no other
+pub record IsTextOfOne (bytes : List ℕ) (s : ShardModel) : Type 0 where
+  pub read : IsReadAs bytes s
+  pub alone : (other : ShardModel) → IsReadAs bytes other → other ≡ s
+
 -- ---- reading
 
--- what is read so far: one file, and no xorbs
-pub record IsLimited (s : ShardModel) : Type 0 where
-  pub one_file : length s.files ≡ 1
-  pub no_xorbs : length s.xorbs ≡ 0
-
--- the bytes are the text of the shard, and it is of the form that is read
-pub record IsReadAs (bytes : List ℕ) (s : ShardModel) : Type 0 where
-  pub text : IsTextOf bytes s
-  pub limited : IsLimited s
-
--- A shard is read exactly where the bytes are its text and it is of the form that is read, unless memory runs out.
+-- A shard is read exactly where the bytes are its text, unless memory runs out.
 abbrev pub ReadsShard : List ℕ → Result ShardModel ClientError → Type 0
 ReadsShard bytes (Ok s) = IsReadAs bytes s
 ReadsShard bytes (Err (FormatError faults.Shard)) = (s : ShardModel) → IsReadAs bytes s → ⊥

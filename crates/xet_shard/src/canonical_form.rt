@@ -1,6 +1,7 @@
 //! The canonical form of a shard, and its name.
 ghost use Rattle.std.specs.Prelude.{◌≡◌, ◌≤◌, IfOk, length};
 ghost use Rattle.std.specs.FinMap.{entries};
+ghost use Rattle.xet_shard.specs.ShardBytes.{IsTextOfOne};
 ghost use Rattle.xet_shard.specs.Canonical.{file_hash_of, xorb_hash_of, last_entries, last_by_hash, canonical_of, canonical_text, shard_name, IsCanonical};
 
 use crate::listing::{FileListing, Shard, XorbListing};
@@ -49,7 +50,10 @@ fn canonical_files(alloc: Global, files: &[FileListing]) -> Result<Vec<FileListi
 }
 
 /// The last listing of each xorb, in order of hash.
-fn canonical_xorbs(alloc: Global, xorbs: &[XorbListing]) -> Result<Vec<XorbListing>, OutOfMemory>
+pub(crate) fn canonical_xorbs(
+    alloc: Global,
+    xorbs: &[XorbListing],
+) -> Result<Vec<XorbListing>, OutOfMemory>
     ensures value { IfOk result (λ v. v.items ≡ last_by_hash xorb_hash_of xorbs.now) }
     ensures fewer { IfOk result (λ v. length v.items ≤ length xorbs.now) }
 {
@@ -59,11 +63,12 @@ fn canonical_xorbs(alloc: Global, xorbs: &[XorbListing]) -> Result<Vec<XorbListi
 }
 
 /// The shard in its canonical form: no expiry, the last listing of each file, in order of hash, and of each xorb
-/// likewise. Flags and spare words are kept. A canonical shard is its own canonical form.
+/// likewise. Flags and spare words are kept. A canonical shard is its own canonical form, so a second time changes nothing.
 pub fn canonical(alloc: Global, shard: &Shard) -> Result<Shard, OutOfMemory>
     ensures value { IfOk result (λ s. s ≡ canonical_of shard.now) }
     ensures rises { IfOk result (λ s. IsCanonical s) }
     ensures same { IsCanonical shard.now → IfOk result (λ s. s ≡ shard.now) }
+    ensures twice { IfOk result (λ s. canonical_of s ≡ s) }
 {
     let files = canonical_files(alloc, shard.files())?;
     let xorbs = canonical_xorbs(alloc, shard.xorbs())?;
@@ -74,9 +79,10 @@ pub fn canonical(alloc: Global, shard: &Shard) -> Result<Shard, OutOfMemory>
     })
 }
 
-/// The bytes of the canonical form.
+/// The bytes of the canonical form, which `read_shard` reads as that form.
 pub fn canonical_bytes(alloc: Global, shard: &Shard) -> Result<Bytes, OutOfMemory>
-    ensures { IfOk result (λ bytes. bytes ≡ canonical_text shard.now) }
+    ensures value { IfOk result (λ bytes. bytes ≡ canonical_text shard.now) }
+    ensures read_back { IfOk result (λ bytes. IsTextOfOne bytes (canonical_of shard.now)) }
 {
     let shard = canonical(alloc, shard)?;
     write_shard(alloc, &shard)

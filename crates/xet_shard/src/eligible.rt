@@ -4,7 +4,7 @@ ghost use Rattle.std.specs.List.{flat_map};
 ghost use Rattle.xet_shard.specs.Canonical.{canonical_of};
 ghost use Rattle.xet_shard.specs.Eligible.{is_marked, eligible_in, eligible_among, distinct, eligible_of};
 
-use crate::canonical_form::canonical;
+use crate::canonical_form::canonical_xorbs;
 use crate::listing::{ChunkListing, Shard, XorbListing};
 use std::alloc::Global;
 use xet_bytes::ByHash;
@@ -71,11 +71,11 @@ pub fn eligible_among_xorbs(
     distinct(alloc, &hashes)
 }
 
-/// The chunks of a shard that get an entry for deduplication, in the order of its canonical form: the first chunk of each xorb,
-/// and each chunk the last eight bytes of whose hash, the lowest first, are a number that 1024 divides.
+/// The hashes of the chunks of a shard that get an entry for deduplication, in the order of its canonical form, each once: the
+/// first chunk of each xorb, and each chunk the last eight bytes of whose hash, the lowest first, are a number that 1024 divides.
 pub fn eligible_chunks(alloc: Global, shard: &Shard) -> Result<Vec<MerkleHash>, OutOfMemory>
     ensures { IfOk result (λ v. v.items ≡ eligible_of (canonical_of shard.now)) }
 {
-    let shard = canonical(alloc, shard)?;
-    eligible_among_xorbs(alloc, shard.xorbs())
+    let xorbs = canonical_xorbs(alloc, shard.xorbs())?;
+    eligible_among_xorbs(alloc, &xorbs)
 }

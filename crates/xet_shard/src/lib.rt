@@ -13,4 +13,4 @@ pub use canonical_form::{canonical, canonical_bytes, shard_hash};
 pub use eligible::{eligible_among_xorbs, eligible_chunks};
 pub use listing::{ChunkListing, FileListing, Segment, Shard, XorbListing};
 pub use read::read_shard;
-pub use write::write_shard;
+pub use write::{write_shard, xorb_subset_with_expiry};

@@ -1,7 +1,7 @@
 //! Reading a shard from its bytes.
-ghost use Rattle.std.specs.Prelude.{◌≡◌, ◌↔◌, ◌<◌, ◌≤◌, IfOk, IsTrue, length};
+ghost use Rattle.std.specs.Prelude.{◌≡◌, ◌<◌, ◌≤◌, IfOk, length};
 ghost use Rattle.xet_bytes.specs.Reading.{Gives, times_at, whole_of};
-ghost use Rattle.xet_shard.specs.ShardBytes.{IsLimited, ReadsShard};
+ghost use Rattle.xet_shard.specs.ShardBytes.{ReadsShard};
 ghost use Rattle.xet_shard.specs.ShardReading.{segment_at, listing_at, chunk_at, listed_xorb_at, shard_at, GivesWhole};
 
 use crate::listing::{ChunkListing, FileListing, Segment, Shard, XorbListing};
@@ -165,14 +165,7 @@ fn whole(alloc: Global, content: &[u8]) -> Result<Shard, ReadError>
     Ok(shard)
 }
 
-/// Whether a shard is of the form that is read so far.
-fn is_limited(shard: &Shard) -> bool
-    ensures { IsTrue result ↔ IsLimited shard.now }
-{
-    shard.files.len() == 1 && shard.xorbs.is_empty()
-}
-
-/// The shard whose text the bytes are, all of them: so far a shard of one file and no xorbs.
+/// The shard whose text the bytes are, all of them, with any number of files and xorbs, none too.
 ///
 /// Other bytes are refused with `FormatError(Shard)`. What is read takes room in proportion to the bytes that are
 /// there, whatever the counts in them claim.
@@ -180,13 +173,7 @@ pub fn read_shard(alloc: Global, content: &[u8]) -> Result<Shard, ClientError>
     ensures { ReadsShard content.now result }
 {
     match whole(alloc, content) {
-        Ok(shard) => {
-            if is_limited(&shard) {
-                Ok(shard)
-            } else {
-                Err(ClientError::FormatError(FormatFault::Shard))
-            }
-        }
+        Ok(shard) => Ok(shard),
         Err(ReadError::Malformed) => Err(ClientError::FormatError(FormatFault::Shard)),
         Err(ReadError::Memory) => Err(ClientError::OutOfMemory),
     }

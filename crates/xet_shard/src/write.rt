@@ -1,7 +1,8 @@
 //! Writing a shard as bytes.
 ghost use Rattle.std.specs.Prelude.{◌≡◌, ◌+◌, ◌*◌, ◌-◌, ◌^◌, ◌<◌, ◌++◌, OnOk, IfOk, length, min, sum_by};
-ghost use Rattle.std.specs.List.{flat_map};
-ghost use Rattle.xet_shard.specs.ShardBytes.{segment_bytes, listing_bytes, chunk_bytes, listed_xorb_bytes, shard_bytes};
+ghost use Rattle.std.specs.List.{flat_map, AllByRecursion};
+ghost use Rattle.xet_shard.specs.ShardBytes.{IsSegment, IsListing, IsChunkListing, IsListedXorb, IsShard, IsTextOfOne, segment_bytes, listing_bytes, chunk_bytes, listed_xorb_bytes, shard_bytes};
+ghost use Rattle.xet_shard.specs.Listings.{shard_with, xorb_subset};
 ghost use Rattle.xet_shard.specs.ShardLengths.{listing_len, listed_xorb_len};
 
 use crate::listing::{ChunkListing, FileListing, Segment, Shard, XorbListing};
@@ -33,7 +34,8 @@ fn xorbs_len(xorbs: &[XorbListing]) -> usize
 }
 
 fn put_segment(out: &mut Vec<u8>, segment: &Segment) -> Result<(), OutOfMemory>
-    ensures { OnOk result (out.new.items ≡ out.old.items ++ segment_bytes segment.now) }
+    ensures text { OnOk result (out.new.items ≡ out.old.items ++ segment_bytes segment.now) }
+    ensures fits { OnOk result (IsSegment segment.now) }
 {
     put_hash(out, &segment.xorb_hash)?;
     put_u32(out, segment.xorb_flags)?;
@@ -44,7 +46,8 @@ fn put_segment(out: &mut Vec<u8>, segment: &Segment) -> Result<(), OutOfMemory>
 }
 
 fn put_segments(out: &mut Vec<u8>, segments: &[Segment]) -> Result<(), OutOfMemory>
-    ensures { OnOk result (out.new.items ≡ out.old.items ++ flat_map segment_bytes segments.now) }
+    ensures text { OnOk result (out.new.items ≡ out.old.items ++ flat_map segment_bytes segments.now) }
+    ensures fits { OnOk result (AllByRecursion IsSegment segments.now) }
 {
     for segment in segments {
         put_segment(out, segment)?;
@@ -53,7 +56,8 @@ fn put_segments(out: &mut Vec<u8>, segments: &[Segment]) -> Result<(), OutOfMemo
 }
 
 fn put_file(out: &mut Vec<u8>, file: &FileListing) -> Result<(), OutOfMemory>
-    ensures { OnOk result (out.new.items ≡ out.old.items ++ listing_bytes file.now) }
+    ensures text { OnOk result (out.new.items ≡ out.old.items ++ listing_bytes file.now) }
+    ensures fits { OnOk result (IsListing file.now) }
 {
     let segments = file.segments();
     put_hash(out, &file.file_hash)?;
@@ -63,7 +67,8 @@ fn put_file(out: &mut Vec<u8>, file: &FileListing) -> Result<(), OutOfMemory>
 }
 
 fn put_files(out: &mut Vec<u8>, files: &[FileListing]) -> Result<(), OutOfMemory>
-    ensures { OnOk result (out.new.items ≡ out.old.items ++ flat_map listing_bytes files.now) }
+    ensures text { OnOk result (out.new.items ≡ out.old.items ++ flat_map listing_bytes files.now) }
+    ensures fits { OnOk result (AllByRecursion IsListing files.now) }
 {
     for file in files {
         put_file(out, file)?;
@@ -72,7 +77,8 @@ fn put_files(out: &mut Vec<u8>, files: &[FileListing]) -> Result<(), OutOfMemory
 }
 
 fn put_chunk(out: &mut Vec<u8>, chunk: &ChunkListing) -> Result<(), OutOfMemory>
-    ensures { OnOk result (out.new.items ≡ out.old.items ++ chunk_bytes chunk.now) }
+    ensures text { OnOk result (out.new.items ≡ out.old.items ++ chunk_bytes chunk.now) }
+    ensures fits { OnOk result (IsChunkListing chunk.now) }
 {
     put_hash(out, &chunk.chunk_hash)?;
     put_u32(out, chunk.chunk_byte_range_start)?;
@@ -83,7 +89,8 @@ fn put_chunk(out: &mut Vec<u8>, chunk: &ChunkListing) -> Result<(), OutOfMemory>
 }
 
 fn put_chunks(out: &mut Vec<u8>, chunks: &[ChunkListing]) -> Result<(), OutOfMemory>
-    ensures { OnOk result (out.new.items ≡ out.old.items ++ flat_map chunk_bytes chunks.now) }
+    ensures text { OnOk result (out.new.items ≡ out.old.items ++ flat_map chunk_bytes chunks.now) }
+    ensures fits { OnOk result (AllByRecursion IsChunkListing chunks.now) }
 {
     for chunk in chunks {
         put_chunk(out, chunk)?;
@@ -92,7 +99,8 @@ fn put_chunks(out: &mut Vec<u8>, chunks: &[ChunkListing]) -> Result<(), OutOfMem
 }
 
 fn put_xorb(out: &mut Vec<u8>, xorb: &XorbListing) -> Result<(), OutOfMemory>
-    ensures { OnOk result (out.new.items ≡ out.old.items ++ listed_xorb_bytes xorb.now) }
+    ensures text { OnOk result (out.new.items ≡ out.old.items ++ listed_xorb_bytes xorb.now) }
+    ensures fits { OnOk result (IsListedXorb xorb.now) }
 {
     let chunks = xorb.chunks();
     put_hash(out, &xorb.xorb_hash)?;
@@ -103,7 +111,8 @@ fn put_xorb(out: &mut Vec<u8>, xorb: &XorbListing) -> Result<(), OutOfMemory>
 }
 
 fn put_xorbs(out: &mut Vec<u8>, xorbs: &[XorbListing]) -> Result<(), OutOfMemory>
-    ensures { OnOk result (out.new.items ≡ out.old.items ++ flat_map listed_xorb_bytes xorbs.now) }
+    ensures text { OnOk result (out.new.items ≡ out.old.items ++ flat_map listed_xorb_bytes xorbs.now) }
+    ensures fits { OnOk result (AllByRecursion IsListedXorb xorbs.now) }
 {
     for xorb in xorbs {
         put_xorb(out, xorb)?;
@@ -111,24 +120,60 @@ fn put_xorbs(out: &mut Vec<u8>, xorbs: &[XorbListing]) -> Result<(), OutOfMemory
     Ok(())
 }
 
-fn put_shard(out: &mut Vec<u8>, shard: &Shard) -> Result<(), OutOfMemory>
-    ensures { OnOk result (out.new.items ≡ out.old.items ++ shard_bytes shard.now) }
+fn put_shard(
+    out: &mut Vec<u8>,
+    expiry: u64,
+    files: &[FileListing],
+    xorbs: &[XorbListing],
+) -> Result<(), OutOfMemory>
+    requires few_files { length files.now < 2 ^ 32 }
+    requires few_xorbs { length xorbs.now < 2 ^ 32 }
+    ensures text { OnOk result (out.new.items ≡ out.old.items ++ shard_bytes (shard_with expiry files.now xorbs.now)) }
+    ensures fits { OnOk result (IsShard (shard_with expiry files.now xorbs.now)) }
 {
     out.extend_from_slice(b"XETSHRD1")?;
-    put_u64(out, shard.expiry)?;
-    put_u32(out, shard.files().len() as u32)?;
-    put_files(out, shard.files())?;
-    put_u32(out, shard.xorbs().len() as u32)?;
-    put_xorbs(out, shard.xorbs())?;
+    put_u64(out, expiry)?;
+    put_u32(out, files.len() as u32)?;
+    put_files(out, files)?;
+    put_u32(out, xorbs.len() as u32)?;
+    put_xorbs(out, xorbs)?;
     Ok(())
 }
 
-/// The text of the shard. Its room is taken at once.
-pub fn write_shard(alloc: Global, shard: &Shard) -> Result<Bytes, OutOfMemory>
-    ensures { IfOk result (λ bytes. bytes ≡ shard_bytes shard.now) }
+/// The text of a shard of these parts. Its room is taken at once.
+fn shard_text(
+    alloc: Global,
+    expiry: u64,
+    files: &[FileListing],
+    xorbs: &[XorbListing],
+) -> Result<Bytes, OutOfMemory>
+    requires few_files { length files.now < 2 ^ 32 }
+    requires few_xorbs { length xorbs.now < 2 ^ 32 }
+    ensures text { IfOk result (λ bytes. bytes ≡ shard_bytes (shard_with expiry files.now xorbs.now)) }
+    ensures read_back { IfOk result (λ bytes. IsTextOfOne bytes (shard_with expiry files.now xorbs.now)) }
 {
-    let len = files_len(shard.files()).saturating_add(xorbs_len(shard.xorbs()));
+    let len = files_len(files).saturating_add(xorbs_len(xorbs));
     let mut out = Vec::with_capacity(alloc, len.saturating_add(24))?;
-    put_shard(&mut out, shard)?;
+    put_shard(&mut out, expiry, files, xorbs)?;
     Ok(Bytes::from_vec(out)?)
+}
+
+/// The text of the shard, which `read_shard` reads as the same shard. Its room is taken at once.
+pub fn write_shard(alloc: Global, shard: &Shard) -> Result<Bytes, OutOfMemory>
+    ensures value { IfOk result (λ bytes. bytes ≡ shard_bytes shard.now) }
+    ensures read_back { IfOk result (λ bytes. IsTextOfOne bytes shard.now) }
+{
+    shard_text(alloc, shard.expiry, shard.files(), shard.xorbs())
+}
+
+/// The text of a shard of the same xorbs, in the same order, with no files, that expires at `expiry`, in seconds; 0 for never.
+pub fn xorb_subset_with_expiry(
+    alloc: Global,
+    shard: &Shard,
+    expiry: u64,
+) -> Result<Bytes, OutOfMemory>
+    ensures value { IfOk result (λ bytes. bytes ≡ shard_bytes (xorb_subset shard.now expiry)) }
+    ensures read_back { IfOk result (λ bytes. IsTextOfOne bytes (xorb_subset shard.now expiry)) }
+{
+    shard_text(alloc, expiry, &[], shard.xorbs())
 }

@@ -11,3 +11,6 @@ returns-clause-rises c = subst IsCanonical (sym (returns-clause-value c)) (IsCan
 
 pub returns-clause-same : goal.returns-clause-same
 returns-clause-same c = λ h. returns-clause-value c ∙ canonical_of-again c.args.shard.now h
+
+pub returns-clause-twice : goal.returns-clause-twice
+returns-clause-twice c = canonical_of-again _ (returns-clause-rises c)
