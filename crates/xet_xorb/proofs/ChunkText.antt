@@ -14,8 +14,8 @@ use Rattle.xet_bytes.specs.Reading.{Gives}
 use Rattle.xet_bytes.proofs.FieldLaws.{IsBytes, IsField, le24_field, literal_field, pair_field, such_field, view_field, fits_field, some_is}
 use Rattle.xet_xorb.specs.Lengths.{IsChunkLength, serialized_length}
 use Rattle.xet_xorb.specs.ChunkLists.{IsChunk, IsWellFormed, lengths_of}
-use Rattle.xet_xorb.specs.XorbBytes.{header_bytes, chunk_bytes, xorb_text, IsXorbText}
-use Rattle.xet_xorb.specs.Steps.{same_lengths, stored_of, header_at, HasHeader, ReadsHeader, HasChunk, TakesChunk, ReadsParts}
+use Rattle.xet_xorb.specs.XorbBytes.{header_bytes, chunk_bytes, xorb_text}
+use Rattle.xet_xorb.specs.Steps.{same_lengths, stored_of, header_at, HasHeader, ReadsHeader, HasChunk, TakesChunk, at_chunks_end, BeginsWith, ReadsParts}
 
 -- ---- a header
 
@@ -127,22 +127,27 @@ lengths_of_each (c ∷ cs) h = (h.0, lengths_of_each cs h.1)
 pub each_of_formed : (chunks : List (List ℕ)) → IsWellFormed chunks → AllByRecursion IsChunk chunks
 each_of_formed chunks h = each_of_lengths chunks (recursion_from_All IsChunkLength (lengths_of chunks) h.lengths.each)
 
--- other chunks with the text of these and a rest are these and more
-pub record GoesOn (chunks others : List (List ℕ)) (rest : List ℕ) : Type 0 where
+-- other chunks, whose text and a tail is the text of these and a rest, are these and more
+pub record GoesOn (chunks others : List (List ℕ)) (tail rest : List ℕ) : Type 0 where
   pub more : List (List ℕ)
   pub is : others ≡ chunks ++ more
   pub each : AllByRecursion IsChunk more
-  pub text : rest ≡ xorb_text more
+  pub text : rest ≡ xorb_text more ++ tail
 
-longer : (c rest : List ℕ) → [] ≡ chunk_bytes c ++ rest → ⊥
-longer c rest e = absurd cc
+-- a chunk does not begin where chunks end
+not_ended : (tail c rest : List ℕ) → at_chunks_end tail ≡ true → tail ≡ chunk_bytes c ++ rest → ⊥
+not_ended tail c rest ends e = let no : at_chunks_end (chunk_bytes c ++ rest) ≡ true = ap at_chunks_end (sym e) ∙ ends in absurd cc
 
-pub goes_on : (chunks others : List (List ℕ)) (rest : List ℕ) → AllByRecursion IsChunk chunks → AllByRecursion IsChunk others → xorb_text others ≡ xorb_text chunks ++ rest → GoesOn chunks others rest
-goes_on [] others rest h k e = record { more = others; is = refl; each = k; text = sym e }
-goes_on (c ∷ cs) [] rest h k e = absurd (longer c (xorb_text cs ++ rest) (e ∙ ap (λ (t : List ℕ). t ++ rest) (flat_map-cons chunk_bytes c cs) ∙ append_assoc (chunk_bytes c) (xorb_text cs) rest))
-goes_on (c ∷ cs) (o ∷ os) rest h k e =
-    let same = same_chunk o c (xorb_text os) (xorb_text cs ++ rest) k.0 h.0 (sym (flat_map-cons chunk_bytes o os) ∙ e ∙ ap (λ (t : List ℕ). t ++ rest) (flat_map-cons chunk_bytes c cs) ∙ append_assoc (chunk_bytes c) (xorb_text cs) rest) in
-    let more = goes_on cs os rest h.1 k.1 same.rest in
+-- the first chunk's text, before the others' and a tail
+first-text : (c : List ℕ) (cs : List (List ℕ)) (tail : List ℕ) → xorb_text (c ∷ cs) ++ tail ≡ chunk_bytes c ++ (xorb_text cs ++ tail)
+first-text c cs tail = ap (λ (t : List ℕ). t ++ tail) (flat_map-cons chunk_bytes c cs) ∙ append_assoc (chunk_bytes c) (xorb_text cs) tail
+
+pub goes_on : (chunks others : List (List ℕ)) (tail rest : List ℕ) → AllByRecursion IsChunk chunks → AllByRecursion IsChunk others → at_chunks_end tail ≡ true → xorb_text others ++ tail ≡ xorb_text chunks ++ rest → GoesOn chunks others tail rest
+goes_on [] others tail rest h k ends e = record { more = others; is = refl; each = k; text = sym e }
+goes_on (c ∷ cs) [] tail rest h k ends e = absurd (not_ended tail c (xorb_text cs ++ rest) ends (e ∙ first-text c cs rest))
+goes_on (c ∷ cs) (o ∷ os) tail rest h k ends e =
+    let same = same_chunk o c (xorb_text os ++ tail) (xorb_text cs ++ rest) k.0 h.0 (sym (first-text o os tail) ∙ e ∙ first-text c cs rest) in
+    let more = goes_on cs os tail rest h.1 k.1 ends same.rest in
     record {
       more = more.more;
       is = ap (λ (x : List ℕ). x ∷ os) same.chunk ∙ ap (λ (xs : List (List ℕ)). c ∷ xs) more.is;
@@ -150,20 +155,31 @@ goes_on (c ∷ cs) (o ∷ os) rest h k e =
       text = more.text;
     }
 
-pub no_more : (chunks : List (List ℕ)) → [] ≡ xorb_text chunks → chunks ≡ []
-no_more [] e = refl
-no_more (c ∷ cs) e = absurd (longer c (xorb_text cs) (e ∙ flat_map-cons chunk_bytes c cs))
+pub no_more : (chunks : List (List ℕ)) (tail rest : List ℕ) → at_chunks_end rest ≡ true → rest ≡ xorb_text chunks ++ tail → chunks ≡ []
+no_more [] tail rest ends e = refl
+no_more (c ∷ cs) tail rest ends e = absurd (not_ended rest c (xorb_text cs ++ tail) ends (e ∙ first-text c cs tail))
 
--- Chunks are fixed by their text.
+-- a text without a tail
+bare : (bytes : List ℕ) (chunks : List (List ℕ)) → bytes ≡ xorb_text chunks → bytes ≡ xorb_text chunks ++ []
+bare bytes chunks e = e ∙ sym (append-nil (xorb_text chunks))
+
+-- Chunks and what stands behind them are fixed by their text.
+pub record SameParts (xs ys : List (List ℕ)) (a b : List ℕ) : Type 0 where
+  pub chunks : xs ≡ ys
+  pub rest : a ≡ b
+
+pub same_parts : (xs ys : List (List ℕ)) (a b : List ℕ) → AllByRecursion IsChunk xs → AllByRecursion IsChunk ys → at_chunks_end a ≡ true → at_chunks_end b ≡ true → xorb_text xs ++ a ≡ xorb_text ys ++ b → SameParts xs ys a b
+same_parts xs ys a b h k ends ends' e =
+    let more = goes_on ys xs a b k h ends e in
+    let none : more.more ≡ [] = no_more more.more a b ends' more.text in
+    record {
+      chunks = more.is ∙ ap (λ (zs : List (List ℕ)). ys ++ zs) none ∙ append-nil ys;
+      rest = sym (more.text ∙ ap (λ (zs : List (List ℕ)). xorb_text zs ++ a) none);
+    }
+
 pub xorb_text-injective : (xs ys : List (List ℕ)) → All IsChunk xs → All IsChunk ys → xorb_text xs ≡ xorb_text ys → xs ≡ ys
 xorb_text-injective xs ys h k e =
-    let more = goes_on ys xs [] (recursion_from_All IsChunk ys k) (recursion_from_All IsChunk xs h) (e ∙ sym (append-nil (xorb_text ys))) in
-    more.is ∙ ap (λ (zs : List (List ℕ)). ys ++ zs) (no_more more.more more.text) ∙ append-nil ys
-
--- A xorb's bytes spell one list of chunks.
-pub IsXorbText-unique : (bytes : List ℕ) (xs ys : List (List ℕ)) → IsXorbText bytes xs → IsXorbText bytes ys → xs ≡ ys
-IsXorbText-unique bytes xs ys h k =
-    xorb_text-injective xs ys (All-from_recursion IsChunk xs (each_of_formed xs h.formed)) (All-from_recursion IsChunk ys (each_of_formed ys k.formed)) (sym h.text ∙ k.text)
+    (same_parts xs ys [] [] (recursion_from_All IsChunk xs h) (recursion_from_All IsChunk ys k) refl refl (ap (λ (t : List ℕ). t ++ []) e)).chunks
 
 pub lengths-length : (chunks : List (List ℕ)) → length (lengths_of chunks) ≡ length chunks
 lengths-length chunks = length-map chunks length
@@ -189,29 +205,35 @@ reads_on bytes chunks rest chunk after h has = record {
   text = h.text ∙ ap (λ (t : List ℕ). xorb_text chunks ++ t) has.text ∙ sym (append_assoc (xorb_text chunks) (chunk_bytes chunk) after) ∙ ap (λ (t : List ℕ). t ++ after) (sym (text-push chunks chunk));
 }
 
-pub others_go_on : (bytes : List ℕ) (chunks others : List (List ℕ)) (rest : List ℕ) → IsReadSoFar bytes chunks rest → AllByRecursion IsChunk others → bytes ≡ xorb_text others → GoesOn chunks others rest
-others_go_on bytes chunks others rest h k e = goes_on chunks others rest h.each k (sym e ∙ h.text)
+others_go_on_behind : (bytes : List ℕ) (chunks others : List (List ℕ)) (tail rest : List ℕ) → IsReadSoFar bytes chunks rest → AllByRecursion IsChunk others → at_chunks_end tail ≡ true → bytes ≡ xorb_text others ++ tail → GoesOn chunks others tail rest
+others_go_on_behind bytes chunks others tail rest h k ends e = goes_on chunks others tail rest h.each k ends (sym e ∙ h.text)
 
--- what does not begin with a chunk, and is not empty, is no list
-none_begins : (rest : List ℕ) (more : List (List ℕ)) → 0 < length rest → ((first after : List ℕ) → HasChunk rest first after → ⊥) → AllByRecursion IsChunk more → rest ≡ xorb_text more → ⊥
-none_begins rest [] some none k e = absurd (omega (arith, ap length e, some))
-none_begins rest (c ∷ cs) some none k e = none c (xorb_text cs) (record { fits = k.0; text = e ∙ flat_map-cons chunk_bytes c cs })
+pub others_go_on : (bytes : List ℕ) (chunks others : List (List ℕ)) (rest : List ℕ) → IsReadSoFar bytes chunks rest → AllByRecursion IsChunk others → bytes ≡ xorb_text others → GoesOn chunks others [] rest
+others_go_on bytes chunks others rest h k e = others_go_on_behind bytes chunks others [] rest h k refl (bare bytes others e)
+
+-- what does not begin with a chunk, and is not the tail, is no list before the tail
+none_begins : (tail rest : List ℕ) (more : List (List ℕ)) → (rest ≡ tail → ⊥) → ((first after : List ℕ) → HasChunk rest first after → ⊥) → AllByRecursion IsChunk more → rest ≡ xorb_text more ++ tail → ⊥
+none_begins tail rest [] other none k e = other e
+none_begins tail rest (c ∷ cs) other none k e = none c (xorb_text cs ++ tail) (record { fits = k.0; text = e ∙ first-text c cs tail })
+
+stops_behind : (bytes : List ℕ) (chunks others : List (List ℕ)) (tail rest : List ℕ) → (rest ≡ tail → ⊥) → IsReadSoFar bytes chunks rest → ((first after : List ℕ) → HasChunk rest first after → ⊥) → AllByRecursion IsChunk others → at_chunks_end tail ≡ true → bytes ≡ xorb_text others ++ tail → ⊥
+stops_behind bytes chunks others tail rest other h none k ends e =
+    let more = others_go_on_behind bytes chunks others tail rest h k ends e in
+    none_begins tail rest more.more other none more.each more.text
 
 pub stops : (bytes : List ℕ) (chunks others : List (List ℕ)) (rest : List ℕ) → 0 < length rest → IsReadSoFar bytes chunks rest → ((first after : List ℕ) → HasChunk rest first after → ⊥) → AllByRecursion IsChunk others → bytes ≡ xorb_text others → ⊥
-stops bytes chunks others rest some h none k e =
-    let more = others_go_on bytes chunks others rest h k e in
-    none_begins rest more.more some none more.each more.text
+stops bytes chunks others rest some h none k e = stops_behind bytes chunks others [] rest (λ end. absurd (omega (arith, ap length end, some))) h none k refl (bare bytes others e)
 
--- where no chunk is taken, no list has this text
-pub stops_by : {X : Type 0} (chunk after : X → List ℕ) (e : ReadError) (bytes : List ℕ) (chunks : List (List ℕ)) (rest : List ℕ) → 0 < length rest → IsReadSoFar bytes chunks rest → TakesChunk chunk rest (Err e) after → ReadsParts bytes (Err e)
-stops_by chunk after Memory bytes chunks rest some h e = tt
-stops_by chunk after Malformed bytes chunks rest some h e = λ others are. stops bytes chunks others rest some h e (each_of_formed others are.formed) are.text
+-- where no chunk is taken, and chunks don't end, no list has this text
+pub stops_by : {X : Type 0} (chunk after : X → List ℕ) (e : ReadError) (bytes : List ℕ) (chunks : List (List ℕ)) (rest : List ℕ) → at_chunks_end rest ≡ false → IsReadSoFar bytes chunks rest → TakesChunk chunk rest (Err e) after → ReadsParts bytes (Err e)
+stops_by chunk after Memory bytes chunks rest on h e = tt
+stops_by chunk after Malformed bytes chunks rest on h e = λ others tail are.
+    stops_behind bytes chunks others tail rest (λ same. let no : at_chunks_end rest ≡ true = ap at_chunks_end same ∙ are.ends in absurd cc) h e (each_of_formed others are.formed) are.ends are.text
 
 -- at the end the chunks are the only ones
 pub is_done : (bytes : List ℕ) (chunks others : List (List ℕ)) (rest : List ℕ) → IsReadSoFar bytes chunks rest → rest ≡ [] → AllByRecursion IsChunk others → bytes ≡ xorb_text others → others ≡ chunks
 is_done bytes chunks others rest h end k e =
-    let more = others_go_on bytes chunks others rest h k e in
-    more.is ∙ ap (λ (zs : List (List ℕ)). chunks ++ zs) (no_more more.more (sym end ∙ more.text)) ∙ append-nil chunks
+    (same_parts others chunks [] rest k h.each refl (ap at_chunks_end end) (sym (bare bytes others e) ∙ h.text)).chunks
 
 -- ---- lengths
 
@@ -226,16 +248,16 @@ pub serialized-push : (chunks : List (List ℕ)) (chunk : List ℕ) → serializ
 serialized-push chunks chunk = omega (arith, serialized-append chunks (chunk ∷ []), serialized-cons (length chunk) [])
 
 -- with so many bytes already no list is short enough
-pub too_long : (bytes : List ℕ) (chunks others : List (List ℕ)) (rest : List ℕ) → IsReadSoFar bytes chunks rest → 2 ^ 32 ≤ serialized_length (lengths_of chunks) → IsXorbText bytes others → ⊥
-too_long bytes chunks others rest h long are =
-    let more = others_go_on bytes chunks others rest h (each_of_formed others are.formed) are.text in
+pub too_long : (bytes : List ℕ) (chunks others : List (List ℕ)) (tail rest : List ℕ) → IsReadSoFar bytes chunks rest → 2 ^ 32 ≤ serialized_length (lengths_of chunks) → BeginsWith bytes others tail → ⊥
+too_long bytes chunks others tail rest h long are =
+    let more = others_go_on_behind bytes chunks others tail rest h (each_of_formed others are.formed) are.ends are.text in
     let len : serialized_length (lengths_of others) ≡ serialized_length (lengths_of (chunks ++ more.more)) = ap (λ (xs : List (List ℕ)). serialized_length (lengths_of xs)) more.is in
     let short : serialized_length (lengths_of others) < 2 ^ 32 = are.formed.lengths.short in
     let sums = serialized-append chunks more.more in
     absurd (omega (arith, len, short, sums, long))
 
-pub is_xorb_text : (bytes : List ℕ) (chunks : List (List ℕ)) (rest : List ℕ) → IsReadSoFar bytes chunks rest → rest ≡ [] → 0 < length chunks → serialized_length (lengths_of chunks) < 2 ^ 32 → IsXorbText bytes chunks
-is_xorb_text bytes chunks rest h end some short = record {
+pub begins_with : (bytes : List ℕ) (chunks : List (List ℕ)) (rest : List ℕ) → IsReadSoFar bytes chunks rest → at_chunks_end rest ≡ true → 0 < length chunks → serialized_length (lengths_of chunks) < 2 ^ 32 → BeginsWith bytes chunks rest
+begins_with bytes chunks rest h ends some short = record {
   formed = record {
     lengths = record {
       some = omega (arith, lengths-length chunks);
@@ -243,12 +265,17 @@ is_xorb_text bytes chunks rest h end some short = record {
       short = short;
     };
   };
-  text = h.text ∙ ap (λ (t : List ℕ). xorb_text chunks ++ t) end ∙ append-nil (xorb_text chunks);
+  text = h.text;
+  ends = ends;
 }
 
--- no bytes are no xorb
-pub is_empty : (bytes : List ℕ) (chunks others : List (List ℕ)) (rest : List ℕ) → IsReadSoFar bytes chunks rest → rest ≡ [] → length chunks ≡ 0 → IsXorbText bytes others → ⊥
-is_empty bytes chunks others rest h end none are =
-    let same : others ≡ chunks = is_done bytes chunks others rest h end (each_of_formed others are.formed) are.text in
+-- no chunks are no xorb
+pub is_empty : (bytes : List ℕ) (chunks others : List (List ℕ)) (tail rest : List ℕ) → IsReadSoFar bytes chunks rest → at_chunks_end rest ≡ true → length chunks ≡ 0 → BeginsWith bytes others tail → ⊥
+is_empty bytes chunks others tail rest h ends none are =
+    let same = same_parts others chunks tail rest (each_of_formed others are.formed) h.each are.ends ends (sym are.text ∙ h.text) in
     let some : 0 < length (lengths_of others) = are.formed.lengths.some in
-    absurd (omega (arith, ap length same, none, some, lengths-length others))
+    absurd (omega (arith, ap length same.chunks, none, some, lengths-length others))
+
+-- Bytes begin with the chunks of one list.
+pub BeginsWith-unique : (bytes : List ℕ) (xs ys : List (List ℕ)) (a b : List ℕ) → BeginsWith bytes xs a → BeginsWith bytes ys b → SameParts xs ys a b
+BeginsWith-unique bytes xs ys a b h k = same_parts xs ys a b (each_of_formed xs h.formed) (each_of_formed ys k.formed) h.ends k.ends (sym h.text ∙ k.text)

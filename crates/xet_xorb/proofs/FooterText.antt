@@ -15,7 +15,7 @@ length-running : (from : ℕ) (ns : List ℕ) → length (running_sums from ns) 
 length-running from [] = refl
 length-running from (n ∷ ns) = ap suc (length-running (from + n) ns)
 
-running-steps : (from : ℕ) (ends : List ℕ) → Rises from ends → running_sums from (steps from ends) ≡ ends
+pub running-steps : (from : ℕ) (ends : List ℕ) → Rises from ends → running_sums from (steps from ends) ≡ ends
 running-steps from [] r = refl
 running-steps from (e ∷ es) r = let same : from + (e - from) ≡ e = omega (arith, r.0) in rw (same, running-steps e es r.1) refl
 

@@ -2,6 +2,9 @@ pub mod Offsets
 pub mod ChunkText
 pub mod WellFormed
 pub mod FooterText
+pub mod Literals
+pub mod Footing
+pub mod Owning
 pub mod Joining
 pub mod Indices
 pub mod WholeChunks

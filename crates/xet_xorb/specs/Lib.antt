@@ -4,4 +4,6 @@ pub mod Objects
 pub mod ChunkLists
 pub mod XorbBytes
 pub mod Steps
+pub mod Footers
+pub mod Contents
 pub mod JoinedChunks

@@ -1,14 +1,15 @@
--- The steps of reading a xorb: a header, and a chunk.
-use Rattle.std.specs.Prelude.{◌≡◌, ℕ, ◌≤◌, Bool, ◌&&◌, nat_lt, ◌==◌, List, [], ◌∷◌, ◌++◌, length, map, drop, Result, Ok, Err}
+-- The steps of reading a xorb: a header, a chunk, and the chunks to their end.
+use Rattle.std.specs.Prelude.{◌≡◌, ℕ, ◌≤◌, Bool, true, ◌&&◌, nat_lt, ◌==◌, List, [], ◌∷◌, ◌++◌, length, map, drop, Result, Ok, Err}
 use Rattle.std.specs.Global.{Vec}
 use Rattle.xet_types.specs.Names.{chunk_hash}
 use Rattle.xet_bytes.specs.declared.cursor.ReadError.{ReadError}
 use Rattle.xet_bytes.specs.declared.cursor.ReadError.TheVariants.{Memory, Malformed}
 use Rattle.xet_bytes.specs.Reading.{Reading, number24_at, literal_at, pair_at, view_at, such_at}
 use Rattle.xet_xorb.specs.declared.read.Parts.{Parts}
+use Rattle.xet_xorb.specs.declared.read.ReadXorb.{ReadXorb}
 use Rattle.xet_xorb.specs.Lengths.{IsChunkLength}
-use Rattle.xet_xorb.specs.ChunkLists.{IsChunk, lengths_of}
-use Rattle.xet_xorb.specs.XorbBytes.{header_bytes, chunk_bytes, IsXorbText, AreWholeChunks}
+use Rattle.xet_xorb.specs.ChunkLists.{IsChunk, IsWellFormed, lengths_of}
+use Rattle.xet_xorb.specs.XorbBytes.{header_bytes, chunk_bytes, xorb_text, IsXorbText, IsReadOf, AreWholeChunks}
 
 -- the two lengths of a header are one, above 0
 abbrev pub same_lengths : Unit {0} × (ℕ × (Unit {0} × ℕ)) → Bool
@@ -44,16 +45,32 @@ TakesChunk chunk bytes (Ok x) rest = HasChunk bytes (chunk x) (rest x)
 TakesChunk chunk bytes (Err Memory) rest = Unit {0}
 TakesChunk chunk bytes (Err Malformed) rest = (first after : List ℕ) → HasChunk bytes first after → ⊥
 
--- the chunks of a xorb, with their hashes and lengths
+-- no chunk comes next: nothing is left, or a byte stands there with which a footer begins
+abbrev pub at_chunks_end : List ℕ → Bool
+at_chunks_end [] = true
+at_chunks_end (byte ∷ bytes) = byte == 88
+
+-- the bytes begin with the chunks of a well-formed list, and then no chunk comes
+pub record BeginsWith (bytes : List ℕ) (chunks : List (List ℕ)) (rest : List ℕ) : Type 0 where
+  pub formed : IsWellFormed chunks
+  pub text : bytes ≡ xorb_text chunks ++ rest
+  pub ends : at_chunks_end rest ≡ true
+
+-- the chunks with which the bytes begin, with their hashes and lengths, and what is left
 pub record ArePartsOf (bytes : List ℕ) (parts : Parts) : Type 0 where
-  pub chunks : IsXorbText bytes parts.chunks.items
+  pub chunks : BeginsWith bytes parts.chunks.items parts.rest
   pub hashes : parts.hashes.items ≡ map chunk_hash parts.chunks.items
   pub lengths : parts.lengths.items ≡ lengths_of parts.chunks.items
 
 abbrev pub ReadsParts : List ℕ → Result Parts ReadError → Type 0
 ReadsParts bytes (Ok parts) = ArePartsOf bytes parts
 ReadsParts bytes (Err Memory) = Unit {0}
-ReadsParts bytes (Err Malformed) = (chunks : List (List ℕ)) → IsXorbText bytes chunks → ⊥
+ReadsParts bytes (Err Malformed) = (chunks : List (List ℕ)) (rest : List ℕ) → BeginsWith bytes chunks rest → ⊥
+
+abbrev pub ReadsWhole : List ℕ → Result ReadXorb ReadError → Type 0
+ReadsWhole bytes (Ok read) = IsReadOf bytes read
+ReadsWhole bytes (Err Memory) = Unit {0}
+ReadsWhole bytes (Err Malformed) = (chunks : List (List ℕ)) → IsXorbText bytes chunks → ⊥
 
 abbrev pub TakesChunks : List ℕ → Result (Vec (List ℕ)) ReadError → Type 0
 TakesChunks bytes (Ok chunks) = AreWholeChunks bytes chunks.items

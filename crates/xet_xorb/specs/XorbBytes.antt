@@ -7,7 +7,8 @@
 --     scheme 0 (uncompressed)   1 byte
 --     plain length              3 bytes, the same
 --
--- It may be followed by a footer and the footer's length in 4 bytes. Of n chunks the footer is:
+-- It may be followed by a footer and the footer's length in 4 bytes. A chunk's header begins with 0 and a footer with X, so one byte
+-- tells them apart. Of n chunks the footer is:
 --
 --     XETPORT1                  8 bytes
 --     the xorb's name           32 bytes
@@ -17,7 +18,7 @@
 --     where each chunk ends in the joined chunks      4 bytes each
 --
 -- Numbers have their low byte first.
-use Rattle.std.specs.Prelude.{◌≡◌, ℕ, ◌+◌, ◌*◌, ◌<◌, List, [], ◌∷◌, ◌++◌, length, map, All, false, Result, Ok, Err}
+use Rattle.std.specs.Prelude.{◌≡◌, ℕ, ◌+◌, ◌*◌, ◌<◌, List, [], ◌∷◌, ◌++◌, length, map, All, Bool, true, false, Result, Ok, Err}
 use Rattle.std.specs.List.{flat_map}
 use Rattle.std.specs.Global.{Vec}
 use Rattle.xet_types.specs.Names.{name_of_hashes}
@@ -66,18 +67,24 @@ footer_bytes xorb = footer_mark ++ (name_of_hashes xorb.hashes ++ (le32 (length 
 unfoldable pub xorb_bytes : List (List ℕ) → List ℕ
 xorb_bytes chunks = xorb_text chunks ++ (footer_bytes (object_of chunks) ++ le32 (44 + 40 * length chunks))
 
--- the bytes are the text of a well-formed list, without a footer
-pub record IsXorbText (bytes : List ℕ) (chunks : List (List ℕ)) : Type 0 where
-  pub formed : IsWellFormed chunks
-  pub text : bytes ≡ xorb_text chunks
+-- the text of a xorb, with its footer or without it
+abbrev pub text_of : Bool → List (List ℕ) → List ℕ
+text_of true chunks = xorb_bytes chunks
+text_of false chunks = xorb_text chunks
 
--- what was read of a xorb's bytes: its chunks, what is known of it without them, and that it has no footer
+-- the bytes are the text of a well-formed list, with its footer or without it
+pub record IsXorbText (bytes : List ℕ) (chunks : List (List ℕ)) : Type 0 where
+  pub has_footer : Bool
+  pub formed : IsWellFormed chunks
+  pub text : bytes ≡ text_of has_footer chunks
+
+-- what was read of a xorb's bytes: its chunks, what is known of it without them, and whether it has a footer
 pub record IsReadOf (bytes : List ℕ) (read : ReadXorb) : Type 0 where
   pub chunks : IsXorbText bytes read.chunks.items
   pub object : read.object ≡ object_of read.chunks.items
-  pub bare : read.has_footer ≡ false
+  pub footer : read.has_footer ≡ chunks.has_footer
 
--- A xorb is read exactly where the bytes are the text of a well-formed list, unless memory runs out.
+-- A xorb is read exactly where the bytes are the text of a well-formed list, with its footer or without it, unless memory runs out.
 abbrev pub ReadsXorb : List ℕ → Result ReadXorb ClientError → Type 0
 ReadsXorb bytes (Ok read) = IsReadOf bytes read
 ReadsXorb bytes (Err OutOfMemory) = Unit {0}

@@ -1,13 +1,16 @@
 //! Xorbs: lists of chunks under one hash, what is known of one without its bytes, and their bytes.
 #![tactic(auto)]
 
+pub mod contents;
 pub mod deserialize;
+mod footer;
 pub mod object;
 pub mod read;
 pub mod segment;
 pub mod serialized;
 pub mod write;
 
+pub use contents::{footed_text, reconstruct_xorb_with_footer};
 pub use deserialize::deserialize_chunks;
 pub use object::{XorbObject, XorbObjectInfoV1};
 pub use read::{ReadXorb, read_chunks, read_xorb};

@@ -1,9 +1,10 @@
 //! Reading a xorb's bytes.
 ghost use Rattle.std.specs.Prelude.{◌≡◌, drop};
 ghost use Rattle.xet_bytes.specs.Reading.{Gives};
-ghost use Rattle.xet_xorb.specs.Steps.{header_at, ReadsHeader, TakesChunk, ReadsParts, TakesChunks};
+ghost use Rattle.xet_xorb.specs.Steps.{header_at, ReadsHeader, TakesChunk, at_chunks_end, ReadsParts, ReadsWhole, TakesChunks};
 ghost use Rattle.xet_xorb.specs.XorbBytes.{ReadsXorb, ReadsWholeChunks};
 
+use crate::footer::read_footer;
 use crate::object::XorbObject;
 use bytes::Bytes;
 use std::alloc::Global;
@@ -24,12 +25,13 @@ pub struct ReadXorb {
     pub has_footer: bool,
 }
 
-/// The chunks of a xorb, with the hash and the length in bytes of each.
+/// The chunks of a xorb, with the hash and the length in bytes of each, and what is left behind them.
 #[derive(Drop)]
 struct Parts {
     chunks: Vec<Bytes>,
     hashes: Vec<MerkleHash>,
     lengths: Vec<u32>,
+    rest: Bytes,
 }
 
 /// Reads a header: a version, the stored length, a scheme and the plain length, which are equal and above 0.
@@ -68,7 +70,17 @@ fn take_chunk(rest: &mut Bytes) -> Result<Bytes, ReadError>
     Ok(chunk)
 }
 
-/// The chunks to the end of the bytes, in one pass.
+/// Whether no chunk comes next: nothing is left, or a byte stands there with which a footer begins.
+fn at_chunks_end(rest: &[u8]) -> bool
+    ensures { result ≡ at_chunks_end rest.now }
+{
+    match rest {
+        [] => true,
+        [byte, ..] => *byte == b'X',
+    }
+}
+
+/// The chunks with which the bytes begin, in one pass. Room is taken only for chunks that were seen.
 fn read_parts(alloc: Global, content: &Bytes) -> Result<Parts, ReadError>
     ensures { ReadsParts content.now result }
 {
@@ -77,7 +89,7 @@ fn read_parts(alloc: Global, content: &Bytes) -> Result<Parts, ReadError>
     let mut lengths = Vec::new(alloc);
     let mut serialized_length = 48u64;
     let mut rest = content.clone()?;
-    while !rest.is_empty() {
+    while !at_chunks_end(rest.as_slice()) {
         let chunk = take_chunk(&mut rest)?;
         serialized_length += 48 + chunk.len() as u64;
         if serialized_length >= 1 << 32 {
@@ -94,30 +106,39 @@ fn read_parts(alloc: Global, content: &Bytes) -> Result<Parts, ReadError>
         chunks,
         hashes,
         lengths,
+        rest,
     })
 }
 
-/// Reads a xorb without a footer: one or more chunks and nothing else.
+/// The chunks, and behind them nothing or the footer that they give.
+fn read_whole(alloc: Global, content: &Bytes) -> Result<ReadXorb, ReadError>
+    ensures { ReadsWhole content.now result }
+{
+    let parts = read_parts(alloc, content)?;
+    let Parts {
+        chunks,
+        hashes,
+        lengths,
+        rest,
+    } = parts;
+    let object = XorbObject::new(alloc, hashes, lengths.as_slice())?;
+    let has_footer = read_footer(rest.as_slice(), &object)?;
+    Ok(ReadXorb {
+        chunks,
+        object,
+        has_footer,
+    })
+}
+
+/// Reads a xorb: one or more chunks, and then nothing or their footer.
 ///
 /// The chunks are slices of `content`. `FormatError(Xorb)` exactly where the bytes aren't the text of a well-formed
-/// list of chunks; a xorb with a footer isn't read yet.
+/// list of chunks, with its footer or without it: each field of a footer must be the one that the chunks give.
 pub fn read_xorb(alloc: Global, content: &Bytes) -> Result<ReadXorb, ClientError>
     ensures { ReadsXorb content.now result }
 {
-    match read_parts(alloc, content) {
-        Ok(parts) => {
-            let Parts {
-                chunks,
-                hashes,
-                lengths,
-            } = parts;
-            let object = XorbObject::new(alloc, hashes, lengths.as_slice())?;
-            Ok(ReadXorb {
-                chunks,
-                object,
-                has_footer: false,
-            })
-        }
+    match read_whole(alloc, content) {
+        Ok(read) => Ok(read),
         Err(ReadError::Memory) => Err(ClientError::OutOfMemory),
         Err(ReadError::Malformed) => Err(ClientError::FormatError(FormatFault::Xorb)),
     }

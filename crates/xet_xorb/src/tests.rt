@@ -65,6 +65,107 @@ fn writes_and_reads_back(rt: HostRuntime) -> Result<(), Fail> {
 }
 
 #[test]
+fn reads_a_footer(rt: HostRuntime) -> Result<(), Fail> {
+    let alloc = rt.alloc();
+    let content = Bytes::from_static(ABC);
+    assert!(rt; is_malformed(&XorbObject::deserialize(alloc, &content)));
+    let (text, object) = reconstruct_xorb_with_footer(alloc, &content)?;
+    assert_eq!(rt; text.len(), 99);
+    let (again, _) = reconstruct_xorb_with_footer(alloc, &text)?;
+    assert!(rt; again.as_slice() == text.as_slice());
+    let read = read_xorb(alloc, &text)?;
+    assert!(rt; read.has_footer);
+    assert!(rt; read.chunks.as_slice() == chunks_of(alloc, &[b"abc"])?.as_slice());
+    let known = XorbObject::deserialize(alloc, &text)?;
+    check_hash(&rt, known.xorb_hash(), NAME_OF_ABC);
+    for bytes in [&content, &text] {
+        let all = known.get_all_bytes(alloc, bytes)?;
+        assert!(rt; all.as_slice() == b"abc".as_slice());
+        let part = object.get_bytes_by_chunk_range(alloc, bytes, 0, 1)?;
+        assert!(rt; part.as_slice() == b"abc".as_slice());
+        for (start, end) in [(0, 0), (1, 0), (0, 2), (1, 2)] {
+            let none = object.get_bytes_by_chunk_range(alloc, bytes, start, end);
+            assert!(rt; none == Err(ClientError::InvalidRange));
+        }
+    }
+    Ok(())
+}
+
+#[test]
+fn gives_chunks_of_its_own_xorb(rt: HostRuntime) -> Result<(), Fail> {
+    let alloc = rt.alloc();
+    let text = write_xorb(alloc, &chunks_of(alloc, &[b"abc", b"de", b"f"])?)?;
+    let object = XorbObject::deserialize(alloc, &text)?;
+    let all = object.get_all_bytes(alloc, &text)?;
+    assert!(rt; all.as_slice() == b"abcdef".as_slice());
+    let parts: [(u32, u32, &[u8]); 4] = [
+        (0, 2, b"abcde"),
+        (1, 2, b"de"),
+        (1, 3, b"def"),
+        (2, 3, b"f"),
+    ];
+    for (start, end, part) in parts {
+        let bytes = object.get_bytes_by_chunk_range(alloc, &text, start, end)?;
+        assert!(rt; bytes.as_slice() == part);
+    }
+    let others: [&[&[u8]]; 3] = [
+        &[b"abc", b"de"],
+        &[b"abc", b"de", b"g"],
+        &[b"ab", b"cde", b"f"],
+    ];
+    for texts in others {
+        let other = write_xorb(alloc, &chunks_of(alloc, texts)?)?;
+        assert!(rt; is_malformed(&object.get_all_bytes(alloc, &other)));
+        let part = object.get_bytes_by_chunk_range(alloc, &other, 0, 0);
+        assert!(rt; is_malformed(&part));
+    }
+    Ok(())
+}
+
+#[test]
+fn refuses_other_footers(rt: HostRuntime) -> Result<(), Fail> {
+    let alloc = rt.alloc();
+    let lists: [(&[&[u8]], &[usize]); 2] = [
+        (&[b"abc"], &[11]),
+        (&[&[7; 100], &[9; 200]], &[108, 316]),
+    ];
+    for (texts, bare) in lists {
+        let text = write_xorb(alloc, &chunks_of(alloc, texts)?)?;
+        for length in 0..text.len() {
+            let prefix = text.slice(..length)?;
+            let spelled = bare.contains(&length);
+            let read = read_xorb(alloc, &prefix);
+            assert_eq!(rt; read.is_ok(), spelled);
+            assert_eq!(rt; is_malformed(&read), !spelled);
+            assert!(rt; is_malformed(&XorbObject::deserialize(alloc, &prefix)));
+            let mut changed = Vec::from_slice(alloc, text.as_slice())?;
+            changed[length] ^= 1;
+            let changed = Bytes::from_vec(changed)?;
+            assert!(rt; is_malformed(&read_xorb(alloc, &changed)));
+            assert!(rt; is_malformed(&reconstruct_xorb_with_footer(alloc, &changed)));
+        }
+        let mut longer = Vec::from_slice(alloc, text.as_slice())?;
+        longer.push(0)?;
+        let longer = Bytes::from_vec(longer)?;
+        assert!(rt; is_malformed(&read_xorb(alloc, &longer)));
+    }
+    Ok(())
+}
+
+#[test]
+fn reads_other_bytes_of_a_chunk(rt: HostRuntime) -> Result<(), Fail> {
+    let alloc = rt.alloc();
+    for at in 0..ABC.len() {
+        let mut changed = Vec::from_slice(alloc, ABC)?;
+        changed[at] ^= 1;
+        let read = read_xorb(alloc, &Bytes::from_vec(changed)?);
+        assert_eq!(rt; read.is_ok(), at >= 8);
+        assert_eq!(rt; is_malformed(&read), at < 8);
+    }
+    Ok(())
+}
+
+#[test]
 fn knows_where_chunks_lie(rt: HostRuntime) -> Result<(), Fail> {
     let alloc = rt.alloc();
     let one = read_xorb(alloc, &Bytes::from_static(ABC))?.object;
@@ -88,11 +189,13 @@ fn knows_where_chunks_lie(rt: HostRuntime) -> Result<(), Fail> {
 #[test]
 fn refuses_other_bytes(rt: HostRuntime) -> Result<(), Fail> {
     let alloc = rt.alloc();
-    let malformed: [&[u8]; 9] = [
+    let malformed: [&[u8]; 11] = [
         b"",
         b"\x01\x03\x00\x00\x00\x03\x00\x00abc",
         b"\x00\x03\x00\x00\x01\x03\x00\x00abc",
         b"\x00\x03\x00\x00\x00\x02\x00\x00abc",
+        b"\x00\x03\x00\x00\x00\x04\x00\x00abcd",
+        b"XETPORT1",
         b"\x00\x00\x00\x00\x00\x00\x00\x00",
         b"\x00\x03\x00\x00\x00\x03\x00",
         b"\x00\x03\x00\x00\x00\x03\x00\x00ab",
@@ -107,8 +210,6 @@ fn refuses_other_bytes(rt: HostRuntime) -> Result<(), Fail> {
         let chunks = read_chunks(alloc, &Bytes::copy_from_slice(alloc, text)?);
         assert!(rt; is_malformed(&chunks));
     }
-    let with_footer = write_xorb(alloc, &chunks_of(alloc, &[b"abc"])?)?;
-    assert!(rt; is_malformed(&read_xorb(alloc, &with_footer)));
     assert!(rt; is_malformed(&write_xorb(alloc, &[])));
     assert!(rt; is_malformed(&write_xorb(alloc, &chunks_of(alloc, &[b"abc", b""])?)));
     Ok(())
