@@ -9,7 +9,6 @@ use Rattle.xet_xorb.specs.Values.{Xorb}
 use Rattle.xet_xorb.specs.ChunkLists.{lengths_of, object_of, IsWellFormed}
 use Rattle.xet_xorb.specs.XorbBytes.{header_bytes, chunk_bytes, xorb_text, footer_bytes, xorb_bytes}
 use Rattle.xet_xorb.proofs.ChunkText.{length-header}
-use Rattle.xet_xorb.proofs.FooterText.{xorb_written}
 use Rattle.xet_plan.proofs.Lay.{sum-cons}
 use Rattle.xet_store.specs.StoreModel.{Chunks}
 use Rattle.xet_store.specs.Kept.{chunks_in, IsKeptXorb}
@@ -122,10 +121,8 @@ unfolding xorb_bytes tail_of
 text_is cs = refl
 
 -- the text with a list's footer is kept as that list
-pub kept_text : (content text : List ℕ) (cs : Chunks) (object : Xorb) → IsWellFormed cs → content ≡ xorb_text cs → object ≡ object_of cs → text ≡ content ++ (footer_bytes object ++ le32 (44 + 40 * length object.lengths))
-    → (chunks_in text object.lengths ≡ cs) × IsKeptXorb text object
-kept_text content text cs object formed spelled is e =
-    let whole : text ≡ xorb_bytes cs = e ∙ ap (λ (c : List ℕ). c ++ (footer_bytes object ++ le32 (44 + 40 * length object.lengths))) spelled ∙ xorb_written cs object is in
+pub kept_text : (text : List ℕ) (cs : Chunks) (object : Xorb) → IsWellFormed cs → object ≡ object_of cs → text ≡ xorb_bytes cs → (chunks_in text object.lengths ≡ cs) × IsKeptXorb text object
+kept_text text cs object formed is whole =
     let cut : chunks_in text object.lengths ≡ cs =
     ap (λ (t : List ℕ). chunks_in t object.lengths) (whole ∙ text_is cs) ∙ ap (λ (x : Xorb). chunks_in (xorb_text cs ++ tail_of cs) x.lengths) is ∙ chunks_in_text cs (tail_of cs) in (
       cut,

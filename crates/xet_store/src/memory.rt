@@ -95,8 +95,8 @@ impl MemoryClient {
 
     /// Stores a xorb under a hash, and answers its length in bytes with its footer.
     ///
-    /// 0 where the hash is stored already; the bytes then aren't read. `FormatError(Xorb)` where they aren't a xorb's,
-    /// then `Other` where the chunks' hash isn't this one. A refused upload changes nothing.
+    /// 0 where the hash is stored already; the bytes then aren't read. `FormatError(Xorb)` where they aren't a xorb's, with
+    /// its footer or without it, then `Other` where the chunks' hash isn't this one. A refused upload changes nothing.
     pub fn upload_xorb(
         &mut self,
         alloc: Global,

@@ -16,6 +16,14 @@ const XORB: &[u8] = b"\0\x03\0\0\0\x03\0\0abc\0\x05\0\0\0\x05\0\0defgh";
 /// The last 20 bytes of the xorb with its footer: where its chunks end, with headers and without, and the footer's length.
 const XORB_END: &[u8] = b"\x0b\0\0\0\x18\0\0\0\x03\0\0\0\x08\0\0\0\x7c\0\0\0";
 
+/// The xorb with its footer.
+const FOOTED: &[u8] =
+    b"\0\x03\0\0\0\x03\0\0abc\0\x05\0\0\0\x05\0\0defghXETPORT1\x91\x1a\xd1\x05\xed9O\xd1\x0f{\x88\xf6s\xc9u\xa4`\xfc\xe4\xb4Dkuv\x1b\xfdR\xbb\xbc\x0a:u\x02\0\0\0\xbax\x16\xbf\x8f\x01\xcf\xeaAA@\xde]\xae\x22#\xb0\x03a\xa3\x96\x17z\x9c\xb4\x10\xffa\xf2\0\x15\xad83\x95\xa7i\x13\x1d\x15\xc1\xc6\xfcW\xc6\xab\xdbu\x9a\xce\x98\x09\xc1\xad \xd1\xf4\x91\xd9\x0f\x7f\x02e\x0e\x0b\0\0\0\x18\0\0\0\x03\0\0\0\x08\0\0\0|\0\0\0";
+
+/// The same, where the second chunk is said to end one byte later.
+const FALSE_END: &[u8] =
+    b"\0\x03\0\0\0\x03\0\0abc\0\x05\0\0\0\x05\0\0defghXETPORT1\x91\x1a\xd1\x05\xed9O\xd1\x0f{\x88\xf6s\xc9u\xa4`\xfc\xe4\xb4Dkuv\x1b\xfdR\xbb\xbc\x0a:u\x02\0\0\0\xbax\x16\xbf\x8f\x01\xcf\xeaAA@\xde]\xae\x22#\xb0\x03a\xa3\x96\x17z\x9c\xb4\x10\xffa\xf2\0\x15\xad83\x95\xa7i\x13\x1d\x15\xc1\xc6\xfcW\xc6\xab\xdbu\x9a\xce\x98\x09\xc1\xad \xd1\xf4\x91\xd9\x0f\x7f\x02e\x0e\x0b\0\0\0\x19\0\0\0\x03\0\0\0\x08\0\0\0|\0\0\0";
+
 /// A chunk that ends early.
 const TORN: &[u8] = b"\0\x03\0\0\0\x03\0\0ab";
 
@@ -356,6 +364,9 @@ const ROWS: &[(Call, Want)] = &[
     (Call::Xorbs, Want::Nothing),
     (Call::Xorb(OTHER, TORN), Want::BadXorb),
     (Call::Xorb(OTHER, XORB), Want::Other),
+    (Call::Xorb(OTHER, FOOTED), Want::Other),
+    (Call::Xorb(OTHER, FALSE_END), Want::BadXorb),
+    (Call::Xorb(NAME, FALSE_END), Want::BadXorb),
     (Call::Exists(OTHER), Want::Number(0)),
     (Call::Xorb(NAME, XORB), Want::Number(152)),
     (Call::Xorb(NAME, TORN), Want::Number(0)),
@@ -371,6 +382,9 @@ const ROWS: &[(Call, Want)] = &[
     (Call::RawBytes(NAME, Some((9, 8))), Want::BadRange),
     (Call::RawBytes(NAME, Some((152, 153))), Want::BadRange),
     (Call::RawBytes(OTHER, None), Want::NoXorb),
+    (Call::DeleteXorb(NAME), Want::Done),
+    (Call::Xorb(NAME, FOOTED), Want::Number(152)),
+    (Call::RawBytes(NAME, None), Want::Text(FOOTED)),
     (Call::TornShard, Want::BadShard),
     (Call::Size(FILE), Want::NoFile),
     (Call::Data(FILE, None), Want::NoFile),

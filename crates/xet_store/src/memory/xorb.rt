@@ -3,7 +3,7 @@ ghost use Rattle.std.specs.Prelude.{◌≡◌, ◌<◌, ◌≤◌, ◌++◌, [],
 ghost use Rattle.std.specs.List.{concat};
 ghost use Rattle.std.specs.Arc.{arc_value};
 ghost use Rattle.xet_xorb.specs.ChunkLists.{IsWellFormed, object_of};
-ghost use Rattle.xet_xorb.specs.XorbBytes.{xorb_bytes, IsXorbText};
+ghost use Rattle.xet_xorb.specs.XorbBytes.{xorb_bytes, IsReadOf};
 ghost use Rattle.xet_store.specs.Answered.{Answered};
 ghost use Rattle.xet_store.specs.Cuts.{cut_of_chunks};
 
@@ -12,7 +12,7 @@ use std::alloc::Global;
 use std::marker::Model;
 use std::sync::Arc;
 use xet_types::{ChunkRange, ClientError, Items, OutOfMemory};
-use xet_xorb::{ReadXorb, XorbObject, with_footer};
+use xet_xorb::{ReadXorb, XorbObject, footed_text};
 
 /// The length in bytes of a chunk's header.
 const HEADER_LENGTH: usize = 8;
@@ -37,13 +37,12 @@ impl Model for StoredXorb {
 }
 
 impl StoredXorb {
-    /// The xorb that was read of bytes without a footer.
+    /// The xorb that was read of the bytes. Where these have a footer they are kept as they are, without a copy.
     pub fn new(alloc: Global, content: &Bytes, read: ReadXorb) -> Result<StoredXorb, OutOfMemory>
-        requires spelled { IsXorbText content.now read.chunks.items }
-        requires object { read.object ≡ object_of read.chunks.items }
+        requires { IsReadOf content.now read }
         ensures { IfOk result (λ xorb. xorb ≡ read.chunks.items) }
     {
-        let text = with_footer(alloc, content.as_slice(), &read.object)?;
+        let text = footed_text(alloc, content, &read)?;
         let object = Arc::new(alloc, read.object)?;
         Ok(StoredXorb { text, object })
     }
