@@ -13,7 +13,7 @@ use Rattle.xet_types.specs.Records.{FirstPlan}
 use Rattle.xet_xorb.specs.Lengths.{serialized_length}
 use Rattle.xet_xorb.specs.ChunkLists.{lengths_of}
 use Rattle.xet_xorb.specs.XorbBytes.{AreWholeChunks}
-use Rattle.xet_xorb.proofs.ChunkText.{IsXorbText-unique}
+use Rattle.xet_xorb.proofs.Footing.{IsXorbText-unique}
 use Rattle.xet_xorb.proofs.WholeChunks.{AreWholeChunks-unique}
 use Rattle.xet_shard.specs.Listings.{ShardModel}
 use Rattle.xet_shard.specs.Canonical.{canonical_of}
@@ -63,16 +63,16 @@ some_shard s = Some s
 module _ (old : StoreModel) (hash content : List ℕ) (n k : StoreModel) where
   fresh_same : (a b : Result ℕ Refusal) → UploadsFresh old hash content a n → UploadsFresh old hash content b k → Same a b n k
   fresh_same (Ok x) (Ok y) h g =
-      let one : h.chunks ≡ g.chunks = IsXorbText-unique content h.chunks g.chunks h.spelled g.spelled in
+      let one : h.chunks ≡ g.chunks = (IsXorbText-unique content h.chunks g.chunks h.spelled g.spelled).chunks in
       (ap Ok (h.length ∙ ap (λ (cs : Chunks). serialized_length (lengths_of cs)) one ∙ sym g.length), h.stored ∙ ap (with_xorb old hash) one ∙ sym g.stored)
   fresh_same (Ok x) (Err (FormatError faults.Xorb)) h g = absurd (g.0 h.chunks h.spelled)
-  fresh_same (Ok x) (Err Other) h g = absurd (g.0.misnamed (ap xorb_name (IsXorbText-unique content g.0.chunks h.chunks g.0.spelled h.spelled) ∙ h.named))
+  fresh_same (Ok x) (Err Other) h g = absurd (g.0.misnamed (ap xorb_name (IsXorbText-unique content g.0.chunks h.chunks g.0.spelled h.spelled).chunks ∙ h.named))
   fresh_same (Ok x) (Err why) h g = absurd g
   fresh_same (Err (FormatError faults.Xorb)) (Ok y) h g = absurd (h.0 g.chunks g.spelled)
   fresh_same (Err (FormatError faults.Xorb)) (Err (FormatError faults.Xorb)) h g = (refl, h.1 ∙ sym g.1)
   fresh_same (Err (FormatError faults.Xorb)) (Err Other) h g = absurd (h.0 g.0.chunks g.0.spelled)
   fresh_same (Err (FormatError faults.Xorb)) (Err why) h g = absurd g
-  fresh_same (Err Other) (Ok y) h g = absurd (h.0.misnamed (ap xorb_name (IsXorbText-unique content h.0.chunks g.chunks h.0.spelled g.spelled) ∙ g.named))
+  fresh_same (Err Other) (Ok y) h g = absurd (h.0.misnamed (ap xorb_name (IsXorbText-unique content h.0.chunks g.chunks h.0.spelled g.spelled).chunks ∙ g.named))
   fresh_same (Err Other) (Err (FormatError faults.Xorb)) h g = absurd (g.0 h.0.chunks h.0.spelled)
   fresh_same (Err Other) (Err Other) h g = (refl, h.1 ∙ sym g.1)
   fresh_same (Err Other) (Err why) h g = absurd g
@@ -88,7 +88,7 @@ module _ (old : StoreModel) (hash content : List ℕ) (n k : StoreModel) where
 module _ (old : StoreModel) (content : List ℕ) (n k : StoreModel) where
   pub shard_same : (a b : Result Bool Refusal) → UploadsShard old content a n → UploadsShard old content b k → Same a b n k
   shard_same (Ok x) (Ok y) h g =
-      let both : Some h.1.shard ≡ some_shard g.1.shard = sym (read_from_text content h.1.shard h.1.spelled.text) ∙ read_from_text content g.1.shard g.1.spelled.text in
+      let both : Some h.1.shard ≡ some_shard g.1.shard = sym (read_from_text content h.1.shard h.1.spelled) ∙ read_from_text content g.1.shard g.1.spelled in
       let one : h.1.shard ≡ g.1.shard = cc in
       (ap Ok (h.0 ∙ sym g.0), h.1.accepted ∙ ap (λ (s : ShardModel). accepted old (canonical_of s)) one ∙ sym g.1.accepted)
   shard_same (Ok x) (Err (FormatError faults.Shard)) h g = absurd (g.0 h.1.shard h.1.spelled)
