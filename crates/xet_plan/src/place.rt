@@ -1,5 +1,5 @@
 //! Where the bytes of a range lie in the segments of a file, and which chunks of a segment hold them.
-ghost use Rattle.std.specs.Prelude.{◌≡◌, ℕ, ◌+◌, ◌^◌, ◌<◌, ◌≤◌, min, max, List, true, filter, slice_range, slice_index, sum, length, Some, All, IfOk, IfErr};
+ghost use Rattle.std.specs.Prelude.{◌≡◌, ℕ, ◌+◌, ◌^◌, ◌<◌, ◌≤◌, min, max, List, true, filter, slice_range, slice_index, sum, length, Some, All, IfOk, IfErr, IfSome};
 ghost use Rattle.xet_plan.specs.Places.{Interval, interval, place as placed_at, Known, agrees, lengths_in, reach};
 ghost use Rattle.xet_plan.specs.MetChunks.{lay, is_met};
 ghost use Rattle.xet_types.specs.declared.error.FormatFault.TheVariants.{Segment as AtSegment};
@@ -195,6 +195,7 @@ pub fn object_of<F: Footers>(
 ) -> Result<Arc<XorbObject>, ClientError>
     ensures answer { (known : Known) → F.told footers.old ≡ Some known → IsRecent known recent → Gives known hash.now result }
     ensures refusals { IfErr result (IsFooterRefusal hash.now) }
+    ensures unasked { IfSome recent (λ last. last.hash ≡ hash.now → footers.new ≡ footers.old) }
     ensures stays { F.told footers.new ≡ F.told footers.old }
     ensures cause { FailsOnlyByFault (F.faults footers.old) (F.faults footers.new) result }
 {
