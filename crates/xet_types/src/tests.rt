@@ -1,5 +1,6 @@
 use super::*;
 use std::alloc::Global;
+use std::cmp::Ordering;
 use std::collections::BTreeMap;
 use std::fmt::Display;
 use std::process::Abort;
@@ -141,6 +142,30 @@ fn shows_ranges(rt: HostRuntime) -> Result<(), Fail> {
     let header = HttpRange::new(0, 623).range_header(alloc)?;
     assert_eq!(rt; header.as_str(), "bytes=0-623");
     Ok(())
+}
+
+/// Rows of a lower and a higher range: by the start, then by the end.
+#[test]
+fn orders_ranges(rt: HostRuntime) {
+    let rows = [((1, 2), (1, 3)), ((1, 9), (2, 0))];
+    for (low, high) in rows {
+        let low = ChunkRange::new(low.0, low.1);
+        let high = ChunkRange::new(high.0, high.1);
+        assert_eq!(rt; low.cmp(&high), Ordering::Less);
+    }
+    assert_eq!(rt; ChunkRange::default(), ChunkRange::new(0, 0));
+}
+
+/// Two digests, of which the first has the lower first byte and the higher last byte, and the hash of zeros below both.
+#[test]
+fn orders_hashes(rt: HostRuntime) {
+    let zero = MerkleHash::default();
+    let abc = compute_data_hash(b"abc");
+    let empty = compute_data_hash(b"");
+    assert_eq!(rt; abc.cmp(&empty), Ordering::Less);
+    let (one, other) = (HexMerkleHash(abc), HexMerkleHash(zero));
+    assert_eq!(rt; one.cmp(&other), Ordering::Greater);
+    assert_eq!(rt; HexMerkleHash::default(), HexMerkleHash::from(&zero));
 }
 
 #[test]
