@@ -9,7 +9,8 @@ use Rattle.xet_types.specs.Records.{fetch_of, xorb_fetches, second_of}
 use Rattle.xet_types.specs.declared.record.XorbRangeDescriptor.{XorbRangeDescriptor}
 use Rattle.xet_plan.specs.declared.runs.MergedRange.{MergedRange}
 use Rattle.xet_plan.specs.Plans.{PlanModel}
-use Rattle.xet_store.specs.Responses.{url_of, fetch_info_of, fetches_at, first_of}
+use Rattle.xet_wire.specs.Links.{link_text}
+use Rattle.xet_store.specs.Responses.{fetch_info_of, fetches_at, first_of}
 use Rattle.xet_service.specs.declared.reply.PlannedLink.{PlannedLink}
 use Rattle.xet_service.specs.Links.{planned_link, xorb_links, planned_links}
 
@@ -33,7 +34,7 @@ abbrev pub descriptor_of : MergedRange → XorbRangeDescriptor
 descriptor_of r = record { chunks = r.chunk_range; bytes = record { start = r.byte_range.start; end = r.byte_range.end - 1; _marker = record {} } }
 
 abbrev pub link_of : ℕ → Run → PlannedLink
-link_of at r = record { hash = r.hash; url = url_of r.hash r.range.byte_range.start r.range.byte_range.end at; ranges = descriptor_of r.range ∷ [] }
+link_of at r = record { hash = r.hash; url = link_text r.hash r.range.byte_range.start r.range.byte_range.end at; ranges = descriptor_of r.range ∷ [] }
 
 -- one link for each run
 abbrev pub links_of : ℕ → PlanModel → List PlannedLink

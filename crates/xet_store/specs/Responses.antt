@@ -1,25 +1,20 @@
 -- Plans of version 1 with the texts of their links.
-use Rattle.std.specs.Prelude.{◌≡◌, ℕ, ◌-◌, List, ◌∷◌, ◌++◌, map, Option, Some, None, Result, Ok, Err}
-use Rattle.std.specs.Fmt.{decimal}
-use Rattle.hex.specs.Hex.{encode_lower}
+use Rattle.std.specs.Prelude.{◌≡◌, ℕ, ◌-◌, List, map, Option, Some, None, Result, Ok, Err}
 use Rattle.xet_types.specs.declared.error.Refusal.{Refusal}
 use Rattle.xet_types.specs.declared.range.Range.{Range}
 use Rattle.xet_types.specs.declared.range._F.{_F}
 use Rattle.xet_types.specs.Records.{FetchInfo, FirstPlan}
+use Rattle.xet_wire.specs.Links.{link_text}
 use Rattle.xet_plan.specs.declared.runs.MergedRange.{MergedRange}
 use Rattle.xet_plan.specs.Plans.{PlanModel}
 use Rattle.xet_store.specs.StoreModel.{StoreModel, IsSound}
 use Rattle.xet_store.specs.Plans.{PlansFile}
 
--- the text of a link of version 1: the hash, where the bytes begin, where they end, which is excluded, and the moment
-unfoldable pub url_of : List ℕ → ℕ → ℕ → ℕ → List ℕ
-url_of hash start end at = encode_lower hash ++ (58 ∷ decimal start) ++ (58 ∷ decimal end) ++ (58 ∷ decimal at)
-
 -- the link of a run of a xorb's chunks, at a moment; the bytes' end is included
 abbrev pub fetch_info_of : ℕ → List ℕ → MergedRange → FetchInfo
 fetch_info_of at hash r = record {
   range = r.chunk_range;
-  url = url_of hash r.byte_range.start r.byte_range.end at;
+  url = link_text hash r.byte_range.start r.byte_range.end at;
   url_range = record { start = r.byte_range.start; end = r.byte_range.end - 1; _marker = record {} };
 }
 

@@ -1,10 +1,10 @@
 //! Plans of version 1.
-ghost use Rattle.std.specs.Prelude.{◌≡◌, ◌++◌, map, string_bytes, IfOk, OnOk};
+ghost use Rattle.std.specs.Prelude.{◌≡◌, ◌++◌, map, IfOk, OnOk};
 ghost use Rattle.xet_types.specs.RecordMaps.{listed};
 ghost use Rattle.xet_plan.specs.Runs.{Rising};
 ghost use Rattle.xet_plan.specs.Merging.{group_of, ranges_shown};
 ghost use Rattle.xet_plan.specs.Answers.{groups_of};
-ghost use Rattle.xet_store.specs.Responses.{url_of, fetch_info_of, fetches_at, first_of};
+ghost use Rattle.xet_store.specs.Responses.{fetch_info_of, fetches_at, first_of};
 
 use std::alloc::Global;
 use std::collections::BTreeMap;
@@ -13,20 +13,7 @@ use xet_types::{
     HexMerkleHash, HttpRange, MerkleHash, OutOfMemory, QueryReconstructionResponse,
     XorbReconstructionFetchInfo,
 };
-
-/// The text of a link: the xorb's hash, where the bytes begin and end in it, and the moment of the plan in milliseconds.
-fn url(
-    alloc: Global,
-    hash: &MerkleHash,
-    start: u64,
-    end: u64,
-    at: u64,
-) -> Result<String, OutOfMemory>
-    ensures { IfOk result (λ url. string_bytes url ≡ url_of hash.now start end at) }
-{
-    let url = format!(in alloc; "{hash}:{start}:{end}:{at}")?;
-    Ok(url)
-}
+use xet_wire::generate_fetch_url;
 
 /// The link of a run of a xorb's chunks.
 fn fetch_info(
@@ -37,12 +24,11 @@ fn fetch_info(
 ) -> Result<XorbReconstructionFetchInfo, OutOfMemory>
     ensures { IfOk result (λ info. info ≡ fetch_info_of at hash.now run.now) }
 {
-    let start = run.byte_range.start;
-    let end = run.byte_range.end;
+    let bytes = &run.byte_range;
     Ok(XorbReconstructionFetchInfo {
         range: run.chunk_range,
-        url: url(alloc, hash, start, end, at)?,
-        url_range: HttpRange::new(start, end.saturating_sub(1)),
+        url: generate_fetch_url(alloc, hash, bytes, at)?,
+        url_range: HttpRange::new(bytes.start, bytes.end.saturating_sub(1)),
     })
 }
 

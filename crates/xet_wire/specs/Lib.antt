@@ -1,0 +1,5 @@
+pub mod Texts
+pub mod Payloads
+pub mod Links
+pub mod Terms
+pub mod Headers
