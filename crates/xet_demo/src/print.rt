@@ -1,6 +1,7 @@
 //! Replies as text.
 ghost use Rattle.std.specs.Prelude.{◌≡◌, codes};
-ghost use Rattle.std.specs.List.{flat_map};
+ghost use Rattle.std.specs.List.{concat, flat_map};
+ghost use Rattle.hex.specs.Hex.{encode_lower};
 ghost use Rattle.xet_demo.specs.Pages.{Prints, output};
 ghost use Rattle.xet_demo.specs.Printed.{part_text, octets_text, truth_word, version_word, uploaded_line, shard_line, none_line, done_line, size_line, data_start, plan_line, term_line, terms_text, range_text, ranges_text, link_start, link_line, links_text, cache_word, note_text, fetched_start, finished_start, refusal_word, refusal_detail, refused_line, reply_text, replies_text};
 
@@ -8,9 +9,10 @@ pub mod digits;
 pub mod page;
 pub mod part;
 
+use bytes::Bytes;
 use page::Page;
 use part::{Part, print_parts};
-use xet_service::{CacheNote, CacheRefusal, PlanVersion, PlannedLink, Reply};
+use xet_service::{CacheNote, CacheRefusal, Pieces, PlanVersion, PlannedLink, Reply};
 use xet_types::{FormatFault, Octets, Refusal, Sink, XorbRangeDescriptor, XorbReconstructionTerm};
 
 fn truth_word(truth: bool) -> &'static [u8]
@@ -304,6 +306,25 @@ fn print_octets<K: Sink>(page: &mut Page, sink: &mut K, bytes: &Octets)
     }
 }
 
+/// Prints pieces as hexadecimal digits, one behind the other.
+fn print_hex<K: Sink>(page: &mut Page, sink: &mut K, pieces: &[Bytes])
+    ensures { Prints (output (K.taken sink.old) (K.faults sink.old) page.old) (output (K.taken sink.new) (K.faults sink.new) page.new) (encode_lower (concat pieces.now)) }
+{
+    for piece in pieces {
+        page.put_hex(sink, piece.as_slice());
+    }
+}
+
+fn print_pieces<K: Sink>(page: &mut Page, sink: &mut K, bytes: &Pieces)
+    ensures { Prints (output (K.taken sink.old) (K.faults sink.old) page.old) (output (K.taken sink.new) (K.faults sink.new) page.new) (octets_text bytes.now) }
+{
+    if bytes.is_empty() {
+        page.put(sink, b"-");
+    } else {
+        print_hex(page, sink, bytes.pieces());
+    }
+}
+
 #[tactic(auto, unfolding(crate::specs::Printed::refused_line))]
 fn print_refused<K: Sink>(page: &mut Page, sink: &mut K, refusal: &Refusal)
     ensures { Prints (output (K.taken sink.old) (K.faults sink.old) page.old) (output (K.taken sink.new) (K.faults sink.new) page.new) (refused_line refusal.now) }
@@ -365,7 +386,7 @@ pub fn print_reply<K: Sink>(page: &mut Page, sink: &mut K, reply: &Reply)
             print_finished_start(page, sink, *read);
             print_note(page, sink, *wire, cache);
             page.put(sink, b" ");
-            print_octets(page, sink, bytes);
+            print_pieces(page, sink, bytes);
             page.put(sink, b"\n");
         }
         Reply::Size(size) => print_size(page, sink, *size),

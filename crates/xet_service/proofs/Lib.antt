@@ -36,3 +36,4 @@ pub mod Succeeds
 pub mod Following
 pub mod Serviced
 pub mod ReaderAnswers
+pub mod Gathered

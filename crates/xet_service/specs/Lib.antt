@@ -13,3 +13,4 @@ pub mod Reading
 pub mod ReadingPlans
 pub mod ReadingOrder
 pub mod ReadingSteps
+pub mod Gathering

@@ -3,6 +3,7 @@
 
 pub mod body;
 mod links;
+pub mod pieces;
 mod read;
 pub mod reader;
 pub mod reply;
@@ -11,6 +12,7 @@ pub mod service;
 pub mod step;
 
 pub use body::{TermBody, fetch_term_body};
+pub use pieces::Pieces;
 pub use reader::Reader;
 pub use reply::{CacheNote, CacheRefusal, PlannedLink, Reply};
 pub use run::run_steps;

@@ -1,19 +1,23 @@
 //! Open reads as clients have them.
-ghost use Rattle.std.specs.Prelude.{◌≡◌, ◌++◌, nat_le, length, IfOk, OnOk, ⊤};
+ghost use Rattle.std.specs.Prelude.{◌≡◌, nat_le, length, IfOk, OnOk, ⊤};
 ghost use Rattle.std.specs.List.{flat_map};
 ghost use Rattle.xet_store.specs.Answered.{Answered};
 ghost use Rattle.std.specs.Option.{option_copied};
-ghost use Rattle.xet_service.specs.Reading.{Reading, left_link, is_link_left, count_left, give_back, Gives, Accepts, Takes, got_for, held_text, bytes_read};
+ghost use Rattle.xet_service.specs.Reading.{Reading, left_link, is_link_left, count_left, give_back, Gives, Accepts, Takes, got_for, cut_of_range, held_text, bytes_read};
 ghost use Rattle.xet_service.specs.ReadingPlans.{total_of, Opens};
+ghost use Rattle.xet_service.specs.Gathering.{after_text};
 
+mod gather;
 mod held;
 mod join;
 pub(crate) mod link;
 mod order;
 
+use crate::pieces::Pieces;
 use bytes::Bytes;
+use gather::Gathering;
 use held::{HeldTerm, all_ranges, held_terms};
-use join::{asked_length, cut, part, push_chunks};
+use join::{asked_length, part};
 use link::{ReadLink, all_apart, count_left, drop_got, fresh_links, give_terms, put_got};
 use std::alloc::Global;
 use std::marker::Model;
@@ -175,8 +179,17 @@ impl Reader {
         requires { count_left self.now.links ≡ 0 }
         ensures { IfOk result (λ bytes. bytes ≡ bytes_read self.now) }
     {
-        let joined = joined(alloc, &self.links, &self.terms)?;
-        cut(Bytes::from_vec(joined)?, self.offset, self.length)
+        self.pieces(alloc)?.join(alloc)
+    }
+
+    /// What [`Reader::finish`] answers, as further holders of the chunks, which aren't copied.
+    fn pieces(&self, alloc: Global) -> Result<Pieces, OutOfMemory>
+        ensures { IfOk result (λ pieces. pieces ≡ bytes_read self.now) }
+    {
+        let room = count_pieces(&self.links, &self.terms);
+        let mut gathering = Gathering::new(alloc, room, self.offset, self.length)?;
+        push_terms(&mut gathering, &self.links, &self.terms)?;
+        Ok(gathering.into_pieces())
     }
 }
 
@@ -188,15 +201,15 @@ pub(crate) fn take_body(
     link: usize,
     content_type: &str,
     body: Bytes,
-) -> Result<Option<Bytes>, ClientError>
+) -> Result<Option<Pieces>, ClientError>
     ensures { Answered result (λ r. Takes reader.old link content_type.now body r reader.new) (reader.new ≡ reader.old) }
 {
     reader.accept(alloc, link, content_type, body)?;
     if reader.left() > 0 {
         return Ok(None);
     }
-    match reader.finish(alloc) {
-        Ok(bytes) => Ok(Some(bytes)),
+    match reader.pieces(alloc) {
+        Ok(pieces) => Ok(Some(pieces)),
         Err(OutOfMemory) => {
             reader.give_back(link);
             Err(ClientError::OutOfMemory)
@@ -231,37 +244,39 @@ fn got_for<'a>(links: &'a [ReadLink], held: &HeldTerm) -> &'a [Bytes]
     }
 }
 
-/// Adds a term's chunks.
-fn push_held(out: &mut Vec<u8>, links: &[ReadLink], held: &HeldTerm) -> Result<(), OutOfMemory>
-    ensures { OnOk result (out.new.items ≡ out.old.items ++ held_text links.now held.now) }
+/// A term's chunks, none where they weren't brought.
+fn chunks_of<'a>(links: &'a [ReadLink], held: &HeldTerm) -> &'a [Bytes]
+    ensures { result.now ≡ cut_of_range held.now (got_for links.now held.now) }
 {
     let first = held.range.chunks.start;
-    let chunks = part(
+    part(
         got_for(links, held),
         held.term.range.start.saturating_sub(first),
         held.term.range.end.saturating_sub(first),
-    );
-    push_chunks(out, chunks)
+    )
 }
 
-/// How many bytes the terms have together, up to the type's end.
-fn room_of(terms: &[HeldTerm]) -> usize {
-    let mut room = 0usize;
-    for held in terms {
-        room = room.saturating_add(held.term.unpacked_length as usize);
+/// How many chunks the terms have together, up to the type's end.
+fn count_pieces(links: &[ReadLink], terms: &[HeldTerm]) -> usize {
+    let mut count = 0usize;
+    for term in terms {
+        count = count.saturating_add(chunks_of(links, term).len());
     }
-    room
+    count
 }
 
-/// The terms' chunks joined.
-fn joined(alloc: Global, links: &[ReadLink], terms: &[HeldTerm]) -> Result<Vec<u8>, OutOfMemory>
-    ensures { IfOk result (λ bytes. bytes.items ≡ flat_map (held_text links.now) terms.now) }
+/// Takes what is asked of the terms' chunks, in order.
+fn push_terms(
+    gathering: &mut Gathering,
+    links: &[ReadLink],
+    terms: &[HeldTerm],
+) -> Result<(), OutOfMemory>
+    ensures { OnOk result (gathering.new ≡ after_text gathering.old (flat_map (held_text links.now) terms.now)) }
 {
-    let mut joined = Vec::with_capacity(alloc, room_of(terms))?;
     for held in terms {
-        push_held(&mut joined, links, held)?;
+        gathering.push_all(chunks_of(links, held))?;
     }
-    Ok(joined)
+    Ok(())
 }
 
 #[cfg(test)]

@@ -1,4 +1,5 @@
 //! What a step answers.
+use crate::pieces::Pieces;
 use crate::step::PlanVersion;
 use xet_types::{Items, MerkleHash, Octets, Refusal, XorbRangeDescriptor, XorbReconstructionTerm};
 
@@ -73,7 +74,7 @@ pub enum Reply {
     Finished {
         read: u64,
         /// The asked bytes.
-        bytes: Octets,
+        bytes: Pieces,
         /// The length in bytes of the last body.
         wire: u64,
         cache: CacheNote,

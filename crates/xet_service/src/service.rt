@@ -18,6 +18,7 @@ ghost use Rattle.xet_service.specs.Requests.{OfAct, OfPlanAct, OfFetch, OfLink, 
 
 use crate::body::{TermBody, fetch_term_body};
 use crate::links::links_of;
+use crate::pieces::Pieces;
 use crate::read::OpenRead;
 use crate::reader::link::{only_range, unlike};
 use crate::reader::{Reader, take_body};
@@ -203,7 +204,7 @@ impl<K> ChunkService<K> {
             self.next = read + 1;
             return Ok(Reply::Finished {
                 read,
-                bytes: Octets::new(),
+                bytes: Pieces::new(alloc),
                 wire: 0,
                 cache: no_note(),
             });
@@ -268,11 +269,11 @@ fn take(
                 cache: no_note(),
             })
         }
-        Ok(Some(bytes)) => {
+        Ok(Some(pieces)) => {
             reads.remove(read);
             Ok(Reply::Finished {
                 read,
-                bytes: Octets::from_bytes(bytes),
+                bytes: pieces,
                 wire,
                 cache: no_note(),
             })

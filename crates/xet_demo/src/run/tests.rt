@@ -1,7 +1,8 @@
 //! Calls of the program over forms in memory.
 use super::*;
+use bytes::Bytes;
 use std::test::Fail;
-use xet_service::{CacheNote, CacheRefusal, PlanVersion, PlannedLink};
+use xet_service::{CacheNote, CacheRefusal, Pieces, PlanVersion, PlannedLink};
 use xet_types::{
     ChunkRange, FormatFault, HttpRange, Items, MemorySink, MemorySource, MerkleHash, Octets,
     Refusal, XorbRangeDescriptor, XorbReconstructionTerm,
@@ -96,9 +97,12 @@ fn replies(alloc: Global) -> Result<Vec<Reply>, Fail> {
         wire: 11,
         cache: note,
     })?;
+    let mut bytes = Pieces::new(alloc);
+    bytes.push(Bytes::from_vec(Vec::from_slice(alloc, b"ab")?)?)?;
+    bytes.push(Bytes::from_vec(Vec::from_slice(alloc, b"c\xff")?)?)?;
     all.push(Reply::Finished {
         read: 0,
-        bytes: Octets::from_vec(Vec::from_slice(alloc, b"abc\xff")?)?,
+        bytes,
         wire: 0,
         cache: CacheNote {
             hits: 0,

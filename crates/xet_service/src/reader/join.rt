@@ -1,6 +1,5 @@
-//! Chunks put together.
-ghost use Rattle.std.specs.Prelude.{◌≡◌, ◌++◌, drop, slice_range, IfOk, OnOk};
-ghost use Rattle.std.specs.List.{concat};
+//! Parts of chunks and of bytes.
+ghost use Rattle.std.specs.Prelude.{◌≡◌, drop, slice_range, IfOk};
 ghost use Rattle.xet_store.specs.Plans.{cut_to, length_asked};
 
 use bytes::Bytes;
@@ -15,16 +14,6 @@ pub fn part<'a>(chunks: &'a [Bytes], start: u32, end: u32) -> &'a [Bytes]
     &chunks[start..end]
 }
 
-/// Adds the chunks' bytes.
-pub fn push_chunks(out: &mut Vec<u8>, chunks: &[Bytes]) -> Result<(), OutOfMemory>
-    ensures { OnOk result (out.new.items ≡ out.old.items ++ concat chunks.now) }
-{
-    for chunk in chunks {
-        out.extend_from_slice(chunk)?;
-    }
-    Ok(())
-}
-
 /// The length of the asked range, where one is given.
 pub fn asked_length(range: Option<FileRange>) -> Option<u64>
     ensures { result ≡ length_asked range }
@@ -36,8 +25,8 @@ pub fn asked_length(range: Option<FileRange>) -> Option<u64>
 }
 
 /// The bytes less the offset, cut to the length, without copying them.
-pub fn cut(bytes: Bytes, offset: u64, length: Option<u64>) -> Result<Bytes, OutOfMemory>
-    ensures { IfOk result (λ part. part ≡ cut_to length (drop offset bytes)) }
+pub fn cut(bytes: &Bytes, offset: u64, length: Option<u64>) -> Result<Bytes, OutOfMemory>
+    ensures { IfOk result (λ part. part ≡ cut_to length (drop offset bytes.now)) }
 {
     let start = (offset as usize).min(bytes.len());
     let rest = bytes.len() - start;

@@ -1,4 +1,4 @@
-use Rattle.std.proofs.Common.{ℕ, List, [], Option, Some, Ok, ap, sym, subst, ◌∙◌}
+use Rattle.std.proofs.Common.{ℕ, List, [], Option, Ok, subst}
 use Rattle.xet_service.specs.Reading.{Takes}
 use Rattle.xet_service.proofs.Serving.{open_there, left_is, more_takes, last_takes, same_again, reader_same, none_takes}
 use Rattle.xet_service.proofs.service.take.Goals as goal
@@ -19,8 +19,8 @@ returns-in-Ok-None-clause-takes c =
 pub returns-in-Ok-Some-clause-takes : goal.returns-in-Ok-Some-clause-takes
 returns-in-Ok-Some-clause-takes c =
     let held = c.replace-open.result in
-    let takes = subst (λ (o : Option (List ℕ)). Takes held.reader c.args.link [] c.args.body (Ok o) c.take_body.new.reader) (c.in-Ok-Some.field-0-is ∙ ap Some (sym c.from_bytes.ensures)) c.in-Ok-Some.ensures in
-    last_takes c.args.reads.now c.args.read c.args.link c.args.body held _ c.replace-open.new.reads c.replace-open.ensures.value c.replace-open.ensures.put c.take_body.new.reader c.from_bytes.result c.len-wire.result c.no_note-in-Ok-Some.result c.remove.new.self
+    let takes = subst (λ (o : Option (List ℕ)). Takes held.reader c.args.link [] c.args.body (Ok o) c.take_body.new.reader) c.in-Ok-Some.field-0-is c.in-Ok-Some.ensures in
+    last_takes c.args.reads.now c.args.read c.args.link c.args.body held _ c.replace-open.new.reads c.replace-open.ensures.value c.replace-open.ensures.put c.take_body.new.reader c.in-Ok-Some.pieces c.len-wire.result c.no_note-in-Ok-Some.result c.remove.new.self
     takes c.len-wire.ensures.value c.no_note-in-Ok-Some.ensures c.remove.ensures.removed
 
 pub returns-in-Err-clause-takes : goal.returns-in-Err-clause-takes

@@ -1,0 +1,107 @@
+//! Bytes in pieces.
+ghost use Rattle.std.specs.Prelude.{◌≡◌, ◌==◌, ◌++◌, [], length, IfOk, OnOk, OnErr};
+ghost use Rattle.std.specs.List.{concat};
+
+use bytes::Bytes;
+use std::alloc::Global;
+use std::marker::Model;
+use xet_types::OutOfMemory;
+
+/// Bytes in pieces, one behind the other, which are shared by all that hold them. Contracts see them joined.
+#[derive(Debug, Drop)]
+pub struct Pieces {
+    pieces: Vec<Bytes>,
+}
+
+impl Model for Pieces {
+    ghost use Rattle.std.specs.Prelude.{List, ℕ};
+    ghost use Rattle.std.specs.List.{concat};
+
+    ghost Value = { List ℕ };
+
+    ghost view = { λ p. concat p.pieces.items };
+}
+
+/// How many bytes the pieces have together, up to the type's end.
+fn room_of(pieces: &[Bytes]) -> usize {
+    let mut room = 0usize;
+    for piece in pieces {
+        room = room.saturating_add(piece.len());
+    }
+    room
+}
+
+/// Whether none of the pieces has a byte.
+fn are_empty(pieces: &[Bytes]) -> bool
+    ensures { result ≡ (length (concat pieces.now) == 0) }
+{
+    for piece in pieces {
+        if !piece.is_empty() {
+            return false;
+        }
+    }
+    true
+}
+
+fn joined(alloc: Global, pieces: &[Bytes]) -> Result<Vec<u8>, OutOfMemory>
+    ensures { IfOk result (λ bytes. bytes.items ≡ concat pieces.now) }
+{
+    let mut joined = Vec::with_capacity(alloc, room_of(pieces))?;
+    for piece in pieces {
+        joined.extend_from_slice(piece)?;
+    }
+    Ok(joined)
+}
+
+impl Pieces {
+    /// No bytes. Takes no memory.
+    pub fn new(alloc: Global) -> Pieces
+        ensures { result ≡ [] }
+    {
+        Pieces {
+            pieces: Vec::new(alloc),
+        }
+    }
+
+    /// No bytes, with room for so many pieces.
+    pub fn with_capacity(alloc: Global, room: usize) -> Result<Pieces, OutOfMemory>
+        ensures { IfOk result (λ pieces. pieces ≡ []) }
+    {
+        Ok(Pieces {
+            pieces: Vec::with_capacity(alloc, room)?,
+        })
+    }
+
+    /// Adds a piece, which isn't copied; one without bytes takes no place. Where there is no memory, the bytes stay as they were.
+    #[tactic(auto, using(bytes::proofs::Chunks::concat_push))]
+    pub fn push(&mut self, piece: Bytes) -> Result<(), OutOfMemory>
+        ensures ok { OnOk result (self.new ≡ self.old ++ piece) }
+        ensures err { OnErr result (self.new ≡ self.old) }
+    {
+        if !piece.is_empty() {
+            self.pieces.push(piece)?;
+        }
+        Ok(())
+    }
+
+    /// The pieces in order.
+    pub fn pieces(&self) -> &[Bytes]
+        ensures { concat result.now ≡ self.now }
+    {
+        self.pieces.as_slice()
+    }
+
+    /// Whether there are no bytes.
+    pub fn is_empty(&self) -> bool
+        ensures { result ≡ (length self.now == 0) }
+    {
+        are_empty(&self.pieces)
+    }
+
+    /// The bytes in one piece, copied.
+    pub fn join(&self, alloc: Global) -> Result<Bytes, OutOfMemory>
+        ensures { IfOk result (λ bytes. bytes ≡ self.now) }
+    {
+        Ok(Bytes::from_vec(joined(alloc, &self.pieces)?)?)
+    }
+}
