@@ -6,8 +6,8 @@ use bytes::Bytes;
 use std::alloc::Global;
 use std::process::Abort;
 use std::test::Fail;
-use xet_shard::{FileListing, Segment, Shard, write_shard};
-use xet_types::{ClientError, FileRange, FormatFault, MerkleHash, OutOfMemory};
+use xet_shard::{ChunkListing, FileListing, Segment, Shard, XorbListing, write_shard};
+use xet_types::{ClientError, FileRange, FormatFault, MerkleHash, OutOfMemory, compute_data_hash};
 use xet_xorb::SerializedXorbObject;
 
 /// The chunks `abc` and `defgh`, each behind its header.
@@ -39,6 +39,10 @@ const FIRST: &[u8; 32] =
 const SECOND: &[u8; 32] =
     b"\x3a\x15\x7f\x15\x6d\x49\x10\xb7\xca\x36\x73\xc3\x92\x7d\x5f\x02\xa7\x55\x04\xb5\x92\x6c\xe9\x65\x0e\x7d\xe9\xae\x9f\x2a\x3f\xa4";
 
+/// The name of the shard that lists `TWICE`, `ONCE`, `TWICE` again and the xorb.
+const WHOLE: &[u8; 32] =
+    b"\x71\xe3\xa3\x92\xf3\x81\x43\xcd\xf9\x2a\x26\x4c\x70\x0d\x74\x53\x51\x6e\x03\x2e\x50\x57\x86\xb0\x8e\x3c\x05\x42\xb2\xa5\x8b\x58";
+
 const FILE: &[u8; 32] = &[0xaa; 32];
 
 const EMPTY: &[u8; 32] = &[0xbb; 32];
@@ -46,6 +50,10 @@ const EMPTY: &[u8; 32] = &[0xbb; 32];
 const TORN_FILE: &[u8; 32] = &[0xcc; 32];
 
 const OTHER: &[u8; 32] = &[0x55; 32];
+
+const ONCE: &[u8; 32] = &[0x66; 32];
+
+const TWICE: &[u8; 32] = &[0x77; 32];
 
 /// A call of a store.
 #[derive(Clone, Copy)]
@@ -56,6 +64,8 @@ enum Call {
     Shard(&'static [u8; 32], u32, u32, u32),
     /// An upload of a shard that lists a file without segments.
     EmptyFile(&'static [u8; 32]),
+    /// An upload of a shard that lists `TWICE` as the first chunk, `ONCE` as the second, `TWICE` as both, and the xorb.
+    WholeShard,
     /// An upload of bytes that aren't a shard's.
     TornShard,
     Info(&'static [u8; 32]),
@@ -133,6 +143,34 @@ fn shard_of(alloc: Global, file: FileListing) -> Result<Bytes, OutOfMemory> {
         xorbs: Vec::new(alloc),
     };
     write_shard(alloc, &shard)
+}
+
+/// The text of a shard of three listings, the last of a file that is listed before, and of the xorb with its chunks.
+fn whole_shard(alloc: Global) -> Result<Bytes, OutOfMemory> {
+    let first = file_of(alloc, TWICE, Some(segment(0, 1, 3)))?;
+    let other = file_of(alloc, ONCE, Some(segment(1, 2, 5)))?;
+    let again = file_of(alloc, TWICE, Some(segment(0, 2, 8)))?;
+    let xorb = XorbListing {
+        xorb_hash: MerkleHash::from_bytes(*NAME),
+        num_bytes: 8,
+        chunks: Vec::from_array(alloc, [chunk(b"abc", 0, 3), chunk(b"defgh", 3, 5)])?,
+    };
+    let shard = Shard {
+        expiry: 7,
+        files: Vec::from_array(alloc, [first, other, again])?,
+        xorbs: Vec::from_array(alloc, [xorb])?,
+    };
+    write_shard(alloc, &shard)
+}
+
+fn chunk(content: &[u8], start: u32, length: u32) -> ChunkListing {
+    ChunkListing {
+        chunk_hash: compute_data_hash(content),
+        chunk_byte_range_start: start,
+        unpacked_segment_bytes: length,
+        flags: 0,
+        spare: 0,
+    }
 }
 
 /// The only segment of a file, chunks of the xorb.
@@ -303,6 +341,7 @@ fn answer<K: Store>(store: &mut K, alloc: Global, call: &Call) -> Result<Got, Cl
             list(store, alloc, file, Some(segment(*start, *end, *length)))
         }
         Call::EmptyFile(file) => list(store, alloc, file, None),
+        Call::WholeShard => upload_shard(store, alloc, whole_shard(alloc)?),
         Call::TornShard => upload_shard(store, alloc, Bytes::from_static(TORN)),
         Call::Info(file) => info(store, alloc, file),
         Call::Size(file) => size(store, alloc, file),
@@ -424,6 +463,15 @@ const ROWS: &[(Call, Want)] = &[
     (Call::Shard(TORN_FILE, 0, 2, 7), Want::Number(1)),
     (Call::Data(TORN_FILE, None), Want::BadSegment),
     (Call::Plan(TORN_FILE, None), Want::BadSegment),
+    (Call::Hide(ONCE), Want::Done),
+    (Call::WholeShard, Want::Number(1)),
+    (Call::Info(TWICE), Want::Text(WHOLE)),
+    (Call::Info(ONCE), Want::Text(WHOLE)),
+    (Call::Data(TWICE, None), Want::Text(b"abcdefgh")),
+    (Call::Data(ONCE, None), Want::Text(b"defgh")),
+    (Call::WholeShard, Want::Number(1)),
+    (Call::DeleteShard(WHOLE), Want::Done),
+    (Call::Size(TWICE), Want::NoFile),
     (Call::DeleteXorb(NAME), Want::Done),
     (Call::DeleteXorb(NAME), Want::Done),
     (Call::Exists(NAME), Want::Number(0)),
