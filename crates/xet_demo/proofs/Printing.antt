@@ -18,6 +18,9 @@ prints_then {a} {b} {c} {s} {t} p q = record {
   holds = λ start before printed h. let r = q.holds start before (printed ++ s) (p.holds start before printed h) in rw (append_assoc printed s t) at r;
 }
 
+pub prints_nothing : (o : Output) → Prints o o []
+prints_nothing o = record { holds = λ start before printed h. subst (λ (t : List ℕ). Holds start before t o) (sym (append-nil printed)) h }
+
 -- text that goes onto the page
 pub prints_on_page : (taken : Option (List ℕ)) (faults : ℕ) (page : PageText) (bytes : List ℕ) → Prints (output taken faults page) (output taken faults (with_text page (page.text ++ bytes))) bytes
 prints_on_page taken faults page bytes = record {
@@ -71,6 +74,10 @@ prints_failed old new before now page unfailed front rose = record {
         unfailed = λ e. absurd (false≢true (sym e));
       };
 }
+
+pub encode_with-nil : (t : List ℕ) → encode_with t [] ≡ []
+unfolding encode_with
+encode_with-nil t = refl
 
 -- hexadecimal digits of two lists
 pub encode_with-append : (t xs ys : List ℕ) → encode_with t (xs ++ ys) ≡ encode_with t xs ++ encode_with t ys
