@@ -28,12 +28,20 @@ fn push_links(
 ) -> Result<(), OutOfMemory>
     ensures { OnOk result (links.new.items ≡ links.old.items ++ map (planned_link hash.now) fetches.items) }
 {
-    links.reserve(fetches.len())?;
     for fetch in fetches {
         let link = planned_link(hash, fetch)?;
         links.push(link)?;
     }
     Ok(())
+}
+
+/// How many links the xorbs have together, up to the type's end.
+pub(crate) fn count_links(xorbs: &BTreeMap<HexMerkleHash, Vec<XorbMultiRangeFetch>>) -> usize {
+    let mut count = 0usize;
+    for (_, fetches) in xorbs {
+        count = count.saturating_add(fetches.len());
+    }
+    count
 }
 
 /// The links of the xorbs of a plan, in its order.
@@ -43,7 +51,7 @@ pub fn links_of(
 ) -> Result<Vec<PlannedLink>, OutOfMemory>
     ensures { IfOk result (λ links. links.items ≡ flat_map xorb_links (map listed xorbs.entries)) }
 {
-    let mut links = Vec::new(alloc);
+    let mut links = Vec::with_capacity(alloc, count_links(&xorbs))?;
     for (hash, fetches) in xorbs {
         push_links(&mut links, &hash.0, fetches)?;
     }

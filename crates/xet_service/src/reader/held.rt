@@ -54,7 +54,7 @@ fn push_ranges(
 pub fn all_ranges(alloc: Global, links: &[ReadLink]) -> Result<Vec<LinkRange>, OutOfMemory>
     ensures { IfOk result (λ ranges. ranges.items ≡ all_ranges 0 links.now) }
 {
-    let mut out = Vec::new(alloc);
+    let mut out = Vec::with_capacity(alloc, links.len())?;
     for (number, link) in links.iter().enumerate() {
         push_ranges(&mut out, &link.hash, number, link.ranges.as_slice())?;
     }

@@ -10,6 +10,7 @@ ghost use Rattle.xet_service.specs.ReadingSteps.{give_term};
 
 use super::held::HeldTerm;
 use super::join::part;
+use crate::links::count_links;
 use bytes::Bytes;
 use memchr::memmem;
 use std::alloc::Global;
@@ -44,7 +45,7 @@ fn fresh_link(
     Ok(ReadLink {
         hash: *hash,
         ranges: Items::from_vec(Vec::from_slice(alloc, &fetch.ranges)?),
-        held: Items::from_vec(Vec::new(alloc)),
+        held: Items::from_vec(Vec::with_capacity(alloc, 1)?),
         got: None,
     })
 }
@@ -57,7 +58,6 @@ fn push_links(
 ) -> Result<(), OutOfMemory>
     ensures { OnOk result (links.new.items ≡ links.old.items ++ xorb_links (hash.now, fetches.now)) }
 {
-    links.reserve(fetches.len())?;
     for fetch in fetches {
         let link = fresh_link(alloc, hash, fetch)?;
         links.push(link)?;
@@ -72,7 +72,7 @@ pub fn fresh_links(
 ) -> Result<Vec<ReadLink>, OutOfMemory>
     ensures { IfOk result (λ links. links.items ≡ fresh_links (map listed xorbs.now.entries)) }
 {
-    let mut links = Vec::new(alloc);
+    let mut links = Vec::with_capacity(alloc, count_links(xorbs))?;
     for (hash, fetches) in xorbs {
         push_links(alloc, &mut links, &hash.0, fetches)?;
     }
