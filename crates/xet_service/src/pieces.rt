@@ -22,15 +22,6 @@ impl Model for Pieces {
     ghost view = { λ p. concat p.pieces.items };
 }
 
-/// How many bytes the pieces have together, up to the type's end.
-fn room_of(pieces: &[Bytes]) -> usize {
-    let mut room = 0usize;
-    for piece in pieces {
-        room = room.saturating_add(piece.len());
-    }
-    room
-}
-
 /// Whether none of the pieces has a byte.
 fn are_empty(pieces: &[Bytes]) -> bool
     ensures { result ≡ (length (concat pieces.now) == 0) }
@@ -41,16 +32,6 @@ fn are_empty(pieces: &[Bytes]) -> bool
         }
     }
     true
-}
-
-fn joined(alloc: Global, pieces: &[Bytes]) -> Result<Vec<u8>, OutOfMemory>
-    ensures { IfOk result (λ bytes. bytes.items ≡ concat pieces.now) }
-{
-    let mut joined = Vec::with_capacity(alloc, room_of(pieces))?;
-    for piece in pieces {
-        joined.extend_from_slice(piece)?;
-    }
-    Ok(joined)
 }
 
 impl Pieces {
@@ -96,12 +77,5 @@ impl Pieces {
         ensures { result ≡ (length self.now == 0) }
     {
         are_empty(&self.pieces)
-    }
-
-    /// The bytes in one piece, copied.
-    pub fn join(&self, alloc: Global) -> Result<Bytes, OutOfMemory>
-        ensures { IfOk result (λ bytes. bytes ≡ self.now) }
-    {
-        Ok(Bytes::from_vec(joined(alloc, &self.pieces)?)?)
     }
 }

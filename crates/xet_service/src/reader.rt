@@ -1,5 +1,5 @@
 //! Open reads as clients have them.
-ghost use Rattle.std.specs.Prelude.{◌≡◌, nat_le, length, IfOk, OnOk, ⊤};
+ghost use Rattle.std.specs.Prelude.{◌≡◌, ◌++◌, nat_le, length, IfOk, OnOk, ⊤};
 ghost use Rattle.std.specs.List.{flat_map};
 ghost use Rattle.xet_store.specs.Answered.{Answered};
 ghost use Rattle.std.specs.Option.{option_copied};
@@ -17,7 +17,7 @@ use crate::pieces::Pieces;
 use bytes::Bytes;
 use gather::Gathering;
 use held::{HeldTerm, all_ranges, held_terms};
-use join::{asked_length, part};
+use join::{asked_length, cut, part, push_chunks};
 use link::{ReadLink, all_apart, count_left, drop_got, fresh_links, give_terms, put_got};
 use std::alloc::Global;
 use std::marker::Model;
@@ -25,6 +25,9 @@ use xet_types::{
     ClientError, FileRange, Items, OutOfMemory, QueryReconstructionResponseV2,
     XorbReconstructionTerm,
 };
+
+/// How many bytes a holder of a chunk takes.
+const HOLDER: usize = 32;
 
 /// An open read of a file, or of a range of its bytes, as a client has it. It takes the body of each link of a plan once, in
 /// any order, and then gives the bytes. It knows no store.
@@ -179,17 +182,32 @@ impl Reader {
         requires { count_left self.now.links ≡ 0 }
         ensures { IfOk result (λ bytes. bytes ≡ bytes_read self.now) }
     {
-        self.pieces(alloc)?.join(alloc)
+        let joined = joined(alloc, &self.links, &self.terms)?;
+        cut(&Bytes::from_vec(joined)?, self.offset, self.length)
     }
 
-    /// What [`Reader::finish`] answers, as further holders of the chunks, which aren't copied.
-    fn pieces(&self, alloc: Global) -> Result<Pieces, OutOfMemory>
+    /// What [`Reader::finish`] answers, as further holders of the chunks.
+    fn gathered(&self, alloc: Global, count: usize) -> Result<Pieces, OutOfMemory>
         ensures { IfOk result (λ pieces. pieces ≡ bytes_read self.now) }
     {
-        let room = count_pieces(&self.links, &self.terms);
-        let mut gathering = Gathering::new(alloc, room, self.offset, self.length)?;
+        let mut gathering = Gathering::new(alloc, count, self.offset, self.length)?;
         push_terms(&mut gathering, &self.links, &self.terms)?;
         Ok(gathering.into_pieces())
+    }
+
+    /// What [`Reader::finish`] answers. The chunks aren't copied, unless they are so small that their holders would take more
+    /// memory.
+    fn pieces(&self, alloc: Global) -> Result<Pieces, OutOfMemory>
+        requires { count_left self.now.links ≡ 0 }
+        ensures { IfOk result (λ pieces. pieces ≡ bytes_read self.now) }
+    {
+        let count = count_chunks(&self.links, &self.terms);
+        if room_of(&self.terms) / HOLDER >= count {
+            return self.gathered(alloc, count);
+        }
+        let mut pieces = Pieces::with_capacity(alloc, 1)?;
+        pieces.push(self.finish(alloc)?)?;
+        Ok(pieces)
     }
 }
 
@@ -257,12 +275,39 @@ fn chunks_of<'a>(links: &'a [ReadLink], held: &HeldTerm) -> &'a [Bytes]
 }
 
 /// How many chunks the terms have together, up to the type's end.
-fn count_pieces(links: &[ReadLink], terms: &[HeldTerm]) -> usize {
+fn count_chunks(links: &[ReadLink], terms: &[HeldTerm]) -> usize {
     let mut count = 0usize;
     for term in terms {
         count = count.saturating_add(chunks_of(links, term).len());
     }
     count
+}
+
+/// How many bytes the terms have together, up to the type's end.
+fn room_of(terms: &[HeldTerm]) -> usize {
+    let mut room = 0usize;
+    for held in terms {
+        room = room.saturating_add(held.term.unpacked_length as usize);
+    }
+    room
+}
+
+/// Adds a term's chunks.
+fn push_held(out: &mut Vec<u8>, links: &[ReadLink], held: &HeldTerm) -> Result<(), OutOfMemory>
+    ensures { OnOk result (out.new.items ≡ out.old.items ++ held_text links.now held.now) }
+{
+    push_chunks(out, chunks_of(links, held))
+}
+
+/// The terms' chunks joined.
+fn joined(alloc: Global, links: &[ReadLink], terms: &[HeldTerm]) -> Result<Vec<u8>, OutOfMemory>
+    ensures { IfOk result (λ bytes. bytes.items ≡ flat_map (held_text links.now) terms.now) }
+{
+    let mut joined = Vec::with_capacity(alloc, room_of(terms))?;
+    for held in terms {
+        push_held(&mut joined, links, held)?;
+    }
+    Ok(joined)
 }
 
 /// Takes what is asked of the terms' chunks, in order.

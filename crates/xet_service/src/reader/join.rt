@@ -1,5 +1,6 @@
-//! Parts of chunks and of bytes.
-ghost use Rattle.std.specs.Prelude.{◌≡◌, drop, slice_range, IfOk};
+//! Chunks put together.
+ghost use Rattle.std.specs.Prelude.{◌≡◌, ◌++◌, drop, slice_range, IfOk, OnOk};
+ghost use Rattle.std.specs.List.{concat};
 ghost use Rattle.xet_store.specs.Plans.{cut_to, length_asked};
 
 use bytes::Bytes;
@@ -12,6 +13,16 @@ pub fn part<'a>(chunks: &'a [Bytes], start: u32, end: u32) -> &'a [Bytes]
     let end = (end as usize).min(chunks.len());
     let start = (start as usize).min(end);
     &chunks[start..end]
+}
+
+/// Adds the chunks' bytes.
+pub fn push_chunks(out: &mut Vec<u8>, chunks: &[Bytes]) -> Result<(), OutOfMemory>
+    ensures { OnOk result (out.new.items ≡ out.old.items ++ concat chunks.now) }
+{
+    for chunk in chunks {
+        out.extend_from_slice(chunk)?;
+    }
+    Ok(())
 }
 
 /// The length of the asked range, where one is given.
