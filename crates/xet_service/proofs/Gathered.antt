@@ -37,14 +37,14 @@ after_both g a b =
     let long = length-append a b in
     let skip : g.skip - length a - length b ≡ g.skip - length (a ++ b) = omega (arith, long) in
     let left : less (less g.left (length a - g.skip)) (length b - (g.skip - length a)) ≡ less g.left (length (a ++ b) - g.skip) =
-        less_twice g.left _ _ _ (let e : length a - g.skip + (length b - (g.skip - length a)) ≡ length (a ++ b) - g.skip = omega (arith, long) in e) in
+    less_twice g.left _ _ _ (let e : length a - g.skip + (length b - (g.skip - length a)) ≡ length (a ++ b) - g.skip = omega (arith, long) in e) in
     let bytes : (g.bytes ++ cut_to g.left (drop g.skip a)) ++ cut_to (less g.left (length a - g.skip)) (drop (g.skip - length a) b) ≡ g.bytes ++ cut_to g.left (drop g.skip (a ++ b)) =
-        append_assoc g.bytes (cut_to g.left (drop g.skip a)) (cut_to (less g.left (length a - g.skip)) (drop (g.skip - length a) b))
-        ∙ ap (λ (xs : List ℕ). g.bytes ++ xs) (sym (
-            ap (λ (xs : List ℕ). cut_to g.left xs) (drop_over g.skip a b)
-            ∙ cut_over g.left (drop g.skip a) (drop (g.skip - length a) b)
-            ∙ ap (λ n. cut_to g.left (drop g.skip a) ++ cut_to (less g.left n) (drop (g.skip - length a) b)) (length-drop g.skip a)
-        )) in
+    append_assoc g.bytes (cut_to g.left (drop g.skip a)) (cut_to (less g.left (length a - g.skip)) (drop (g.skip - length a) b))
+    ∙ ap (λ (xs : List ℕ). g.bytes ++ xs) (sym (
+    ap (λ (xs : List ℕ). cut_to g.left xs) (drop_over g.skip a b)
+    ∙ cut_over g.left (drop g.skip a) (drop (g.skip - length a) b)
+    ∙ ap (λ n. cut_to g.left (drop g.skip a) ++ cut_to (less g.left n) (drop (g.skip - length a) b)) (length-drop g.skip a)
+    )) in
     alike _ _ _ _ _ _ bytes skip left
 
 cut_none : (left : Option ℕ) → cut_to left [] ≡ []
@@ -59,5 +59,5 @@ pub after_none : (g : Gathered) → after_text g [] ≡ g
 after_none g =
     let skip : g.skip - 0 ≡ g.skip = omega arith in
     let bytes : g.bytes ++ cut_to g.left (drop g.skip []) ≡ g.bytes =
-        ap (λ (xs : List ℕ). g.bytes ++ cut_to g.left xs) (drop-nil g.skip) ∙ ap (λ (xs : List ℕ). g.bytes ++ xs) (cut_none g.left) ∙ append-nil g.bytes in
+    ap (λ (xs : List ℕ). g.bytes ++ cut_to g.left xs) (drop-nil g.skip) ∙ ap (λ (xs : List ℕ). g.bytes ++ xs) (cut_none g.left) ∙ append-nil g.bytes in
     alike _ _ _ _ _ _ bytes skip (less_none g.left g.skip)

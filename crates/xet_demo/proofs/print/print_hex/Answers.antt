@@ -15,7 +15,7 @@ loop-piece-preserved g c =
     let piece : List ℕ = c.as_slice.result.now in
     let more : concat (take (i + 1) pieces) ≡ concat (take i pieces) ++ piece = concat_more pieces i c.piece-item.result c.loop-piece-test.true ∙ ap (λ (b : List ℕ). concat (take i pieces) ++ b) (sym (c.as_slice.ensures ∙ c.piece-item.is)) in
     let text : encode_lower (concat (take i pieces)) ++ encode_lower piece ≡ encode_lower (concat (take (i + 1) pieces)) =
-        sym (encode_with-append lower_digits (concat (take i pieces)) piece) ∙ ap encode_lower (sym more) in
+    sym (encode_with-append lower_digits (concat (take i pieces)) piece) ∙ ap encode_lower (sym more) in
     let printed : Prints start here (encode_lower (concat (take i pieces)) ++ encode_lower piece) = prints_then c.loop-piece.invariant c.put_hex.ensures in
     subst (λ (t : List ℕ). Prints start here t) text printed
 
