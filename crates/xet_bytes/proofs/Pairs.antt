@@ -9,7 +9,7 @@ use Rattle.std.specs.declared.cmp.Ordering.TheVariants.{Less, Equal, Greater}
 use Rattle.std.specs.Cmp.{IsTotalOrder, then_total, on_total, nat_cmp_total, ranked}
 use Rattle.std.specs.FinMap.{FinMap, IsAntisymmetric, get, from_entries, nat_cmp-IsAntisymmetric}
 use Rattle.xet_types.specs.Names.{hash_cmp}
-use Rattle.xet_bytes.specs.Pairs.{Pair, pair_cmp, IsLastBelow}
+use Rattle.xet_bytes.specs.Pairs.{Pair, pair_cmp, IsLastBelow, TwoHashes, hashes_cmp}
 use Rattle.xet_bytes.proofs.Maps.{get_is, hash_exact, hash_total}
 
 pub pair_total : IsTotalOrder pair_cmp
@@ -20,6 +20,17 @@ pair_exact x y e =
     elim (hash_cmp x.0 y.0) as (λ r. hash_cmp x.0 y.0 ≡ r → ordering_then r (nat_cmp x.1 y.1) ≡ Equal → x ≡ y) [
       | Less ↦ λ p q. absurd cc
       | Equal ↦ λ p q i. (hash_exact x.0 y.0 p i, nat_cmp-IsAntisymmetric x.1 y.1 q i)
+      | Greater ↦ λ p q. absurd cc
+    ] refl e
+
+pub hashes_total : IsTotalOrder hashes_cmp
+hashes_total = then_total (on_total (λ (t : TwoHashes). t.0) hash_total) (on_total (λ (t : TwoHashes). t.1) hash_total)
+
+pub hashes_exact : IsAntisymmetric hashes_cmp
+hashes_exact x y e =
+    elim (hash_cmp x.0 y.0) as (λ r. hash_cmp x.0 y.0 ≡ r → ordering_then r (hash_cmp x.1 y.1) ≡ Equal → x ≡ y) [
+      | Less ↦ λ p q. absurd cc
+      | Equal ↦ λ p q i. (hash_exact x.0 y.0 p i, hash_exact x.1 y.1 q i)
       | Greater ↦ λ p q. absurd cc
     ] refl e
 

@@ -1,4 +1,4 @@
--- Values by hash and number.
+-- Values by hash and number, and pairs of hashes.
 use Rattle.std.specs.Prelude.{◌≡◌, ℕ, ◌<◌, ◌≤◌, ◌+◌, List, Option, Some, None}
 use Rattle.std.specs.Ordering.{nat_cmp, ordering_then}
 use Rattle.std.specs.declared.cmp.Ordering.{Ordering}
@@ -21,3 +21,11 @@ NoneBetween m hash start end = (n : ℕ) → start ≤ n → n < end → get m (
 abbrev pub IsLastBelow : {V : Type 0} → FinMap pair_cmp V → List ℕ → ℕ → Option (ℕ × V) → Type 0
 IsLastBelow m hash end None = NoneBetween m hash 0 end
 IsLastBelow m hash end (Some p) = (p.0 < end) × (get m (hash, p.0) ≡ Some p.1) × NoneBetween m hash (p.0 + 1) end
+
+-- two hashes
+abbrev pub TwoHashes : Type 0
+TwoHashes = List ℕ × List ℕ
+
+-- in order of the first hash, then the second
+abbrev pub hashes_cmp : TwoHashes → TwoHashes → Ordering
+hashes_cmp a b = ordering_then (hash_cmp a.0 b.0) (hash_cmp a.1 b.1)

@@ -1,4 +1,4 @@
-//! Values by hash and number, which contracts see as finite maps.
+//! Values by hash and number, and pairs of hashes, which contracts see as finite maps.
 use std::alloc::Global;
 use std::collections::BTreeMap;
 use std::marker::Model;
@@ -62,5 +62,55 @@ impl<V: Copy + Drop> ByHashAndNumber<V> {
     {
         let (key, value) = self.map.range((*hash, 0)..(*hash, end)).next_back()?;
         Some((key.1, *value))
+    }
+}
+
+/// Pairs of hashes, each once, ordered by the first hash, then by the second.
+#[derive(Drop)]
+pub struct HashPairs {
+    map: BTreeMap<(MerkleHash, MerkleHash), ()>,
+}
+
+impl Model for HashPairs {
+    ghost use Rattle.std.specs.FinMap as finmap;
+    ghost use Rattle.xet_bytes.specs.Pairs.{hashes_cmp};
+    ghost use Rattle.std.specs.Coded.{coded×, coded_list, coded_ℕ};
+    ghost use base.Stored.{coded_unit};
+
+    ghost Value = { finmap.FinMap hashes_cmp (Unit {0}) };
+
+    ghost coded = { finmap.code (coded× (coded_list coded_ℕ) (coded_list coded_ℕ)) coded_unit };
+
+    ghost view = { λ t. finmap.from_entries {R = hashes_cmp} t.map.entries };
+}
+
+impl HashPairs {
+    ghost use Rattle.std.specs.Prelude.{◌≡◌, IfOk, OnOk, OnErr};
+    ghost use Rattle.std.specs.FinMap as finmap;
+
+    /// No pairs. Takes no memory.
+    pub fn new(alloc: Global) -> HashPairs
+        ensures { result ≡ finmap.empty }
+    {
+        HashPairs {
+            map: BTreeMap::new(alloc),
+        }
+    }
+
+    /// Puts a pair in. Where there is no memory, the pairs stay as they were.
+    pub fn insert(&mut self, first: MerkleHash, second: MerkleHash) -> Result<(), OutOfMemory>
+        ensures ok { OnOk result (self.new ≡ finmap.insert self.old (first, second) tt) }
+        ensures err { OnErr result (self.new ≡ self.old) }
+    {
+        let _old = self.map.insert((first, second), ())?;
+        Ok(())
+    }
+
+    /// The pairs in order.
+    pub fn pairs(&self, alloc: Global) -> Result<Vec<(MerkleHash, MerkleHash)>, OutOfMemory>
+        ensures { IfOk result (λ pairs. pairs.items ≡ finmap.keys self.now) }
+    {
+        let pairs = self.map.keys().copied().collect(alloc)?;
+        Ok(pairs)
     }
 }

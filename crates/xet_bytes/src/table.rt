@@ -1,6 +1,7 @@
 //! Values by hash and by number, which contracts see as finite maps.
 use std::alloc::Global;
 use std::collections::BTreeMap;
+use std::collections::btree_map::Values;
 use std::marker::Model;
 use xet_types::{MerkleHash, OutOfMemory};
 
@@ -41,6 +42,13 @@ impl<V: Drop> ByNumber<V> {
         ensures { option_copied result ≡ finmap.get self.now key }
     {
         self.map.get(&key)
+    }
+
+    /// The values, in order of number. Takes no memory.
+    pub fn values(&self) -> Values<'_, u64, V>
+        ensures { result ≡ finmap.values self.now }
+    {
+        self.map.values()
     }
 
     /// Puts a value at the number, and answers the one that was there. Only a new number takes memory; where there is
