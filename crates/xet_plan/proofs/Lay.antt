@@ -1,13 +1,13 @@
 -- Chunks laid down one behind the other.
 use Rattle.std.proofs.Common.{◌≡◌, ◌∙◌, ℕ, ◌+◌, ◌-◌, ◌<◌, ◌≤◌, List, [], ◌∷◌, ◌++◌, length, get_or, take, drop, sum, filter, slice_range, refl, ap, sym, arith, suc, true, false, Bool, ◌⊎◌, inl, inr}
-use Rattle.std.proofs.lemmas.List.{drop_more, append_assoc, length-drop, length-take}
+use Rattle.std.proofs.lemmas.List.{drop_more, drop-drop, append_assoc, length-drop, length-take}
 use Rattle.std.proofs.lemmas.List.Sums.{sum_by-cons, sum_by-append, sum_by_push, sum_by_more}
 use Rattle.std.proofs.lemmas.List.Edits.{between_more, between_none}
 use Rattle.std.proofs.lemmas.Bool.Decides.{nat_tests}
 use Rattle.std.proofs.lemmas.Bool.{cases_lt}
 use Rattle.std.proofs.Math.Seq.{take-add}
 use Rattle.std.specs.List.{AllByRecursion, All}
-use Rattle.std.proofs.lemmas.List.Elements.{recursion_from_All, All-take, All-drop}
+use Rattle.std.proofs.lemmas.List.Elements.{recursion_from_All, All-take, All-drop, filter-append}
 use Rattle.xet_plan.specs.Places.{Interval}
 use Rattle.xet_plan.specs.MetChunks.{Chunk, chunk, lay, is_met}
 
@@ -64,11 +64,35 @@ pub none_past : (clip : Interval) (h : List ℕ) (n at : ℕ) (xs : List ℕ) �
 none_past clip h n at [] p = refl
 none_past clip h n at (x ∷ xs) p = filter-no (is_met clip) (chunk h n at x) (lay h (n + 1) (at + x) xs) (is_met-no clip h n at x (inl p)) ∙ none_past clip h (n + 1) (at + x) xs (omega arith)
 
--- a step past a chunk that ends before the interval
-pub skip_more : (clip : Interval) (h : List ℕ) (xs : List ℕ) (i j at : ℕ) → i < j → j ≤ length xs → at + get_or xs i 0 ≤ clip.start
-    → filter (is_met clip) (lay h (i + 1) (at + get_or xs i 0) (slice_range xs (i + 1) j)) ≡ filter (is_met clip) (lay h i at (slice_range xs i j))
-skip_more clip h xs i j at l n p =
-    rw (range-first xs i j l n) (sym (filter-no (is_met clip) (chunk h i at (get_or xs i 0)) (lay h (i + 1) (at + get_or xs i 0) (slice_range xs (i + 1) j)) (is_met-no clip h i at (get_or xs i 0) (inr p))))
+-- nothing that ends before the interval meets it
+none_before : (clip : Interval) (h : List ℕ) (n at : ℕ) (xs : List ℕ) → at + sum xs ≤ clip.start → filter (is_met clip) (lay h n at xs) ≡ []
+none_before clip h n at [] p = refl
+none_before clip h n at (x ∷ xs) p =
+    let total : sum (x ∷ xs) ≡ x + sum xs = sum-cons x xs in
+    filter-no (is_met clip) (chunk h n at x) (lay h (n + 1) (at + x) xs) (is_met-no clip h n at x (inr (omega (arith, p, total))))
+    ∙ none_before clip h (n + 1) (at + x) xs (omega (arith, p, total))
+
+-- a range in two parts
+range-append : (xs : List ℕ) (i j k : ℕ) → i ≤ j → j ≤ k → slice_range xs i k ≡ slice_range xs i j ++ slice_range xs j k
+range-append xs i j k l m =
+    let whole : k - i ≡ (j - i) + (k - j) = omega arith in
+    let rest : drop (j - i) (drop i xs) ≡ drop j xs = drop-drop (j - i) i xs ∙ ap (λ (n : ℕ). drop n xs) (omega (arith, l)) in
+    ap (λ (n : ℕ). take n (drop i xs)) whole ∙ take-add (j - i) (k - j) (drop i xs) ∙ ap (λ (ys : List ℕ). take (j - i) (drop i xs) ++ take (k - j) ys) rest
+
+-- a step past chunks that end before the interval
+pub skip_to : (clip : Interval) (h : List ℕ) (xs : List ℕ) (i j k at : ℕ) → i ≤ j → j ≤ k → k ≤ length xs → at + sum (slice_range xs i j) ≤ clip.start
+    → filter (is_met clip) (lay h j (at + sum (slice_range xs i j)) (slice_range xs j k)) ≡ filter (is_met clip) (lay h i at (slice_range xs i k))
+skip_to clip h xs i j k at l m n p =
+    let front = slice_range xs i j in
+    let back = slice_range xs j k in
+    let len : length front ≡ j - i = omega (arith, length-take (j - i) (drop i xs), length-drop i xs) in
+    let from : i + length front ≡ j = omega arith in
+    let laid : lay h i at (slice_range xs i k) ≡ lay h i at front ++ lay h j (at + sum front) back =
+    ap (lay h i at) (range-append xs i j k l m) ∙ lay-append h i at front back ∙ ap (λ (number : ℕ). lay h i at front ++ lay h number (at + sum front) back) from in
+    sym
+    (ap (filter (is_met clip)) laid
+    ∙ filter-append (is_met clip) (lay h i at front) (lay h j (at + sum front) back)
+    ∙ ap (λ (cs : List Chunk). cs ++ filter (is_met clip) (lay h j (at + sum front) back)) (none_before clip h i at front p))
 
 -- a step over a chunk that meets the interval
 pub run_more : (clip : Interval) (h : List ℕ) (xs : List ℕ) (i k j at to : ℕ) → i ≤ k → k < j → j ≤ length xs → to ≡ at + sum (slice_range xs i k)

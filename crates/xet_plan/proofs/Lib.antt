@@ -17,3 +17,4 @@ pub mod PlanLaws
 pub mod Left
 pub mod Plainly
 pub mod PlainRuns
+pub mod GroupLaws

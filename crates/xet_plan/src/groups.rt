@@ -1,7 +1,7 @@
 //! Groups of ranges, each for one link.
 ghost use Rattle.std.specs.Prelude.{◌≡◌, ◌<◌, map, IfOk};
 ghost use Rattle.std.specs.List.{flat_map};
-ghost use Rattle.xet_plan.specs.Groups.{Sizes, items_of};
+ghost use Rattle.xet_plan.specs.Groups.{Sizes, items_of, in_groups};
 
 use crate::runs::MergedRange;
 use std::alloc::Global;
@@ -16,6 +16,7 @@ pub fn group(
     requires { 0 < max }
     ensures all { IfOk result (λ v. flat_map items_of v.items ≡ ranges.now) }
     ensures sizes { IfOk result (λ v. Sizes max (map items_of v.items)) }
+    ensures value { IfOk result (λ v. map items_of v.items ≡ in_groups max ranges.now) }
 {
     let mut groups = Vec::with_capacity(alloc, ranges.len().div_ceil(max))?;
     let mut rest = ranges;

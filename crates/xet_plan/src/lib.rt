@@ -10,5 +10,6 @@ pub mod runs;
 
 pub use footers::Footers;
 pub use groups::group;
+pub use place::is_agreed;
 pub use planner::{Plan, compute_reconstruction_ranges};
 pub use runs::MergedRange;

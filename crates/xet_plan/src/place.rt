@@ -63,7 +63,7 @@ pub struct Cut {
 }
 
 /// Whether the segment's chunks are those of the xorb, and as long as it lists.
-pub(crate) fn is_agreed(object: &XorbObject, segment: &Segment) -> bool
+pub fn is_agreed(object: &XorbObject, segment: &Segment) -> bool
     ensures value { result ≡ agrees segment.now object.now }
     ensures nonempty { All (λ n. 0 < n) object.now.lengths }
 {
@@ -76,8 +76,8 @@ pub(crate) fn is_agreed(object: &XorbObject, segment: &Segment) -> bool
     end - start == segment.unpacked_segment_bytes
 }
 
-/// The first of the chunks first..end that ends past a place, and where it begins.
-#[tactic(auto, using(crate::proofs::Lay::sum_more, crate::proofs::Lay::sum_range_first, crate::proofs::Lay::sum_range_last))]
+/// The first of the chunks first..end that ends past a place, and where it begins: found by halving.
+#[tactic(auto, using(crate::proofs::Lay::sum_range_first, crate::proofs::Lay::sum_range_last))]
 fn skip(object: &XorbObject, first: u32, end: u32, place: u64, clip_start: u64) -> (u32, u64)
     requires order { first ≤ end }
     requires inside { end ≤ length object.now.lengths }
@@ -91,14 +91,17 @@ fn skip(object: &XorbObject, first: u32, end: u32, place: u64, clip_start: u64) 
 {
     let mut start = first;
     let mut at = place;
-    while start < end {
-        let next = at
-            + u64::from(object.unpacked_before(start + 1) - object.unpacked_before(start));
+    let mut past = end;
+    while start < past {
+        let middle = start + (past - start) / 2;
+        let length = object.unpacked_before(middle + 1) - object.unpacked_before(start);
+        let next = at + u64::from(length);
         if next > clip_start {
-            return (start, at);
+            past = middle;
+        } else {
+            at = next;
+            start = middle + 1;
         }
-        at = next;
-        start += 1;
     }
     (start, at)
 }
