@@ -1,21 +1,20 @@
 -- Range headers: a value means one thing at most, and what is written means its range.
 use Rattle.std.specs.Prelude.{decimal, codes}
-use Rattle.std.proofs.Common.{◌≡◌, ◌≢◌, ◌⊎◌, ◌↔◌, inl, inr, ℕ, suc, ◌+◌, ◌<◌, ◌≤◌, ◌^◌, Bool, true, false, cond, eqb, List, [], ◌∷◌, ◌++◌, length, get_or, drop, refl, sym, ap, ◌∙◌, arith, subst, append_assoc, lit<, Option, MatchOption, Some, None, Ok, Err}
-use Rattle.std.specs.List.{All, Contains}
+use Rattle.std.proofs.Common.{◌≡◌, ◌≢◌, ◌↔◌, inl, ℕ, ◌+◌, ◌<◌, ◌^◌, Bool, true, false, cond, eqb, List, [], ◌∷◌, ◌++◌, drop, refl, sym, ap, ◌∙◌, arith, subst, append_assoc, lit<, Option, MatchOption, Some, None}
+use Rattle.std.specs.List.{Contains}
 use Rattle.std.specs.Str.{IsAscii, IsUtf8}
-use Rattle.std.specs.Str.Parse.{IsNumeral, AllDigits, without_leading_plus}
-use Rattle.std.proofs.lemmas.Fmt.{IsAscii-from_digits, decimal_nonempty}
+use Rattle.std.specs.Str.Parse.{AllDigits}
+use Rattle.std.proofs.lemmas.Fmt.{IsAscii-from_digits}
 use Rattle.std.proofs.lemmas.Str.{IsUtf8-from_ascii, IsAscii-append}
 use Rattle.std.proofs.lemmas.List.{append-nil, append_cancel_left}
-use Rattle.std.proofs.lemmas.List.Elements.{All-nil, All-cons}
+use Rattle.std.proofs.lemmas.List.Elements.{All-nil}
 use Rattle.std.proofs.lemmas.Bool.{eqb-true}
 use Rattle.xet_types.specs.declared.range.Range.{Range}
-use Rattle.xet_types.specs.declared.range._F.{_F}
 use Rattle.xet_types.specs.declared.range._H.{_H}
-use Rattle.xet_types.specs.Ranges.{IsNumber, interval, range_text, last_place}
+use Rattle.xet_types.specs.Ranges.{IsNumber, interval, range_text}
 use Rattle.xet_wire.specs.declared.header.FileRangeVariant.{FileRangeVariant}
 use Rattle.xet_wire.specs.declared.header.FileRangeVariant.TheVariants.{Normal, OpenRHS, Suffix}
-use Rattle.xet_wire.specs.Texts.{Lacks, Fits64, IsCutAtFirst, IsNumberOf, ranges_text, ranges_text_from}
+use Rattle.xet_wire.specs.Texts.{Lacks, Fits64, IsCutAtFirst, ranges_text_from}
 use Rattle.xet_wire.specs.Headers.{Asks, Means, header_text, IsOne}
 use Rattle.xet_wire.proofs.Marks.{same_cut, cut_first, unmarked, number_lacks, differs, comma, lacks_none, mark_there}
 use Rattle.xet_wire.proofs.Written.{number_reads, AllFit, dash_lacks}

@@ -1,5 +1,12 @@
 pub mod Marks
 pub mod Lists
+pub mod Words
+pub mod TwentyDigits
+pub mod Boundaries
+pub mod MultipartOnce
+pub mod MultipartReads
+pub mod HeadersWritten
+pub mod MultipartWritten
 pub mod Written
 pub mod LinkTexts
 pub mod HeaderTexts

@@ -1,21 +1,21 @@
 -- Links: a text spells one at most, and what is written is spelled.
-use Rattle.std.specs.Prelude.{decimal, map}
-use Rattle.std.proofs.Common.{◌≡◌, ◌≢◌, ◌⊎◌, inl, inr, ℕ, ◌<◌, ◌^◌, List, [], ◌∷◌, ◌++◌, refl, sym, ap, ◌∙◌, arith, subst, append_assoc, Ok}
+use Rattle.std.specs.Prelude.{decimal}
+use Rattle.std.proofs.Common.{◌≡◌, inl, inr, ℕ, ◌<◌, ◌^◌, List, [], ◌∷◌, ◌++◌, refl, sym, ap, ◌∙◌, subst, append_assoc, Ok}
 use Rattle.std.specs.Prelude.{Result, Err}
 use Rattle.std.specs.Global.{Vec}
 use Rattle.std.specs.List.{Contains}
-use Rattle.hex.specs.Hex.{encode_lower, decode_sized}
+use Rattle.hex.specs.Hex.{encode_lower}
 use Rattle.xet_types.specs.declared.error.ClientError.{ClientError}
 use Rattle.xet_types.specs.declared.error.ClientError.TheVariants.{InvalidArguments, OutOfMemory}
 use Rattle.xet_types.specs.declared.range.Range.{Range}
 use Rattle.xet_types.specs.declared.range._F.{_F}
 use Rattle.xet_types.specs.declared.range._H.{_H}
-use Rattle.xet_types.specs.Ranges.{interval, number_value, range_text}
-use Rattle.xet_wire.specs.Texts.{Lacks, IsCutAtFirst, AreFields, IsHashOf, IsNumberOf, IsHashThen, IsNumberThen, ListsRanges, AreRanges, pieces_of, ranges_text, ReadsRanges}
+use Rattle.xet_types.specs.Ranges.{interval}
+use Rattle.xet_wire.specs.Texts.{IsCutAtFirst, AreFields, IsHashOf, IsNumberOf, IsHashThen, IsNumberThen, AreRanges, pieces_of, ranges_text, ReadsRanges}
 use Rattle.xet_wire.specs.Payloads.{Encodes, ReadsPayload}
 use Rattle.xet_wire.specs.Links.{link_text, link_payload, SpellsFirstLink, SpellsLinkPayload, SpellsSecondLink, ReadsSecondLink, GivesSecondLink, SpellsLink, ReadsLink, GivesLink, ReadsLinkPayload}
 use Rattle.xet_wire.specs.Terms.{Term, SpellsPlain, SpellsRanged, SpellsTermPayload, ReadsTermPayload, SpellsTerm, ReadsTerm, GivesTerm, term_payload, term}
-use Rattle.xet_wire.proofs.Marks.{fields_once, hash_lacks, number_lacks, colon, same_cut, unmarked, lacks_none, mark_there, no_hash_then, no_hash}
+use Rattle.xet_wire.proofs.Marks.{fields_once, hash_lacks, number_lacks, colon, same_cut, lacks_none, mark_there, no_hash_then, no_hash}
 use Rattle.xet_wire.proofs.Lists.{range_once}
 use Rattle.xet_wire.proofs.Written.{number_reads, list_reads, AllFit}
 

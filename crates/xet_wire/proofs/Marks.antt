@@ -1,18 +1,15 @@
 -- Texts that are cut at a mark: one way at most, and which texts have no mark.
-use Rattle.std.proofs.Common.{◌≡◌, ◌≢◌, ◌⊎◌, ℕ, zero, suc, ◌+◌, ◌<◌, ◌≤◌, Bool, true, false, cond, eqb, List, [], ◌∷◌, ◌++◌, length, get_or, take, drop, Some, None, Ok, inl, inr, refl, sym, ap, ◌∙◌, arith, subst, append_assoc, length-append, length-drop, add-one, lit<, lit≤, eq-eqb}
-use Rattle.std.specs.List.{All, Contains, slice_split, AllPass}
-use Rattle.std.proofs.lemmas.List.Elements.{All-cons, All-nil, All-append, All-from_get_or}
-use Rattle.std.proofs.lemmas.List.Splits.{slice_split_none, slice_split_at}
-use Rattle.std.proofs.lemmas.List.{append_cancel_right, get_or_default}
+use Rattle.std.proofs.Common.{◌≡◌, ◌≢◌, ◌⊎◌, ℕ, suc, ◌<◌, Bool, true, false, cond, eqb, List, [], ◌∷◌, ◌++◌, get_or, drop, inl, inr, refl, sym, ap, ◌∙◌, arith, subst, lit<}
+use Rattle.std.specs.List.{Contains}
+use Rattle.std.proofs.lemmas.List.Elements.{All-cons, All-nil, All-from_get_or}
+use Rattle.std.proofs.lemmas.List.{append_cancel_right}
 use Rattle.std.proofs.lemmas.Bool.{eqb-true}
-use Rattle.std.specs.Bool.{◌==◌}
-use Rattle.std.specs.Int.{IsInRange}
-use Rattle.std.specs.Str.Parse.{IsNumeral, AllDigits, digits_value, without_leading_plus}
+use Rattle.std.specs.Str.Parse.{AllDigits}
 use Rattle.std.proofs.lemmas.Str.Parse.{digit_at}
-use Rattle.hex.specs.Hex.{decode_sized, is_hex_digit}
+use Rattle.hex.specs.Hex.{is_hex_digit}
 use Rattle.hex.proofs.HexLemmas.{IsOk-decode_sized}
 use Rattle.xet_types.specs.Keys.{IsCutAtLast}
-use Rattle.xet_types.specs.Ranges.{IsNumber, number_value}
+use Rattle.xet_types.specs.Ranges.{IsNumber}
 use Rattle.xet_types.proofs.Cuts.{cut_after}
 use Rattle.xet_wire.specs.Texts.{Lacks, IsCutAtFirst, AreFields, IsHashOf, IsNumberOf, IsHashThen, IsNumberThen}
 

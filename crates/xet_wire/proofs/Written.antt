@@ -1,10 +1,10 @@
 -- Numbers and lists of ranges that are written are read back.
-use Rattle.std.specs.Prelude.{decimal, codes, map}
-use Rattle.std.proofs.Common.{◌≡◌, ◌≢◌, ℕ, zero, suc, ◌+◌, ◌<◌, ◌≤◌, ◌^◌, Bool, true, false, eqb, List, [], ◌∷◌, ◌++◌, length, get_or, take, refl, sym, ap, ◌∙◌, arith, subst, length-append, length-take, append_assoc, inl, inr, lit<}
-use Rattle.std.specs.List.{All, before_first, after_first, position_or_len, slice_split}
-use Rattle.std.specs.Str.Parse.{IsNumeral, digits_value, without_leading_plus}
+use Rattle.std.specs.Prelude.{decimal, map}
+use Rattle.std.proofs.Common.{◌≡◌, ◌≢◌, ℕ, suc, ◌+◌, ◌<◌, ◌^◌, Bool, true, eqb, List, [], ◌∷◌, ◌++◌, length, get_or, refl, sym, ap, ◌∙◌, arith, subst, length-append, length-take, append_assoc, inl, lit<}
+use Rattle.std.specs.List.{All, before_first, after_first, position_or_len}
+use Rattle.std.specs.Str.Parse.{without_leading_plus}
 use Rattle.std.proofs.lemmas.Str.Parse.{digit_at, without_leading_plus_none}
-use Rattle.std.proofs.lemmas.Fmt.{decimal_is_IsNumeral, decimal_nonempty}
+use Rattle.std.proofs.lemmas.Fmt.{decimal_is_IsNumeral}
 use Rattle.std.proofs.lemmas.List.{append-nil, get_or_append_left, get_or-take}
 use Rattle.std.proofs.Math.Seq.{get_or-append_seam}
 use Rattle.std.proofs.lemmas.List.Elements.{All-from_get_or, All-append, All-cons}
@@ -12,8 +12,8 @@ use Rattle.std.proofs.lemmas.List.Sums.{split_at_first, fails_before_first, pass
 use Rattle.std.proofs.lemmas.List.Splits.{slice_split_at, slice_split_none}
 use Rattle.std.proofs.lemmas.Bool.{eqb-true, eqb-false}
 use Rattle.xet_types.specs.declared.range.Range.{Range}
-use Rattle.xet_types.specs.Ranges.{IsNumber, number_value, range_text, interval, HasDash, before_dash, after_dash}
-use Rattle.xet_wire.specs.Texts.{Fits64, Lacks, IsNumberOf, IsRangeOf, AreRanges, ListsRanges, pieces_of, comma_before, ranges_text, ranges_text_from}
+use Rattle.xet_types.specs.Ranges.{number_value, range_text, interval}
+use Rattle.xet_wire.specs.Texts.{Fits64, Lacks, IsNumberOf, IsRangeOf, AreRanges, ListsRanges, pieces_of, ranges_text, ranges_text_from}
 use Rattle.xet_wire.proofs.Marks.{same_cut, number_lacks, comma, differs, mark_there}
 use Rattle.xet_wire.proofs.Lists.{other}
 

@@ -1,5 +1,5 @@
 -- Range headers (RFC 7233 section 2.1): which value means what, and the one text of a list of ranges.
-use Rattle.std.specs.Prelude.{◌≡◌, ◌≢◌, ◌++◌, ◌∷◌, [], ◌+◌, ◌<◌, ◌≤◌, ℕ, List, codes, Option, Some, None, Result, Ok, Err}
+use Rattle.std.specs.Prelude.{◌≡◌, ◌++◌, ◌∷◌, [], ◌+◌, ◌<◌, ◌≤◌, ℕ, List, codes, Option, Some, None, Result, Ok, Err}
 use Rattle.xet_types.specs.declared.range.Range.{Range}
 use Rattle.xet_types.specs.declared.range._H.{_H}
 use Rattle.xet_types.specs.Ranges.{interval, last_place}

@@ -3,3 +3,4 @@ pub mod Payloads
 pub mod Links
 pub mod Terms
 pub mod Headers
+pub mod Multipart

@@ -1,8 +1,6 @@
 -- Links: the grammar of each version, the one text that is written, and what reading one answers.
-use Rattle.std.specs.Prelude.{◌≡◌, ◌++◌, ◌∷◌, ◌⊎◌, ℕ, List, map, decimal, Result, Ok, Err}
+use Rattle.std.specs.Prelude.{◌≡◌, ◌++◌, ◌∷◌, ◌⊎◌, ℕ, List, decimal, Result, Ok, Err}
 use Rattle.hex.specs.Hex.{encode_lower}
-use Rattle.base64.specs.Engines.{url_safe_no_pad}
-use Rattle.base64.specs.GeneralPurpose.{encode_of}
 use Rattle.std.specs.Global.{Vec}
 use Rattle.xet_types.specs.declared.error.ClientError.{ClientError}
 use Rattle.xet_types.specs.declared.error.ClientError.TheVariants.{InvalidArguments, OutOfMemory}
@@ -10,7 +8,6 @@ use Rattle.xet_types.specs.declared.range.Range.{Range}
 use Rattle.xet_types.specs.declared.range._F.{_F}
 use Rattle.xet_types.specs.declared.range._H.{_H}
 use Rattle.xet_types.specs.declared.record.XorbRangeDescriptor.{XorbRangeDescriptor}
-use Rattle.xet_types.specs.Ranges.{interval}
 use Rattle.xet_wire.specs.Texts.{AreFields, IsHashOf, IsHashThen, IsNumberOf, IsNumberThen, ListsRanges, ranges_text}
 use Rattle.xet_wire.specs.Payloads.{Encodes}
 

@@ -6,7 +6,7 @@ ghost use Rattle.xet_wire.specs.Texts.{Fits64, ranges_text};
 ghost use Rattle.xet_wire.specs.declared.header.FileRangeVariant.{FileRangeVariant};
 ghost use Rattle.xet_wire.specs.Headers.{Asks, Means, ReadsHeader, header_text, IsOne};
 
-use crate::text::{cut, number, push_range};
+use crate::text::{cut, number, push_range, reserve_ranges};
 use std::alloc::Global;
 use std::str;
 use thiserror::Error;
@@ -112,6 +112,7 @@ pub fn ranges_header(alloc: Global, ranges: &[HttpRange]) -> Result<String, OutO
     ensures means { IfOk result (λ text. (asked : FileRangeVariant) → (Means (string_bytes text) asked ↔ IsOne ranges.now asked)) }
 {
     let mut text = String::from_str(alloc, "bytes=")?;
+    reserve_ranges(&mut text, ranges.len())?;
     push_ranges(&mut text, ranges)?;
     Ok(text)
 }

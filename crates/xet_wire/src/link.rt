@@ -11,7 +11,9 @@ ghost use Rattle.xet_wire.specs.Texts.{Fits64, IsHashOf, ranges_text};
 ghost use Rattle.xet_wire.specs.Links.{link_text, SpellsFirstLink, ReadsFirstLink, bytes_of, link_payload, ReadsLinkPayload, SpellsSecondLink, ReadsSecondLink, GivesSecondLink, SpellsLink, ReadsLink, GivesLink};
 
 use crate::payload;
-use crate::text::{cut, fields, number, number_then, push_number, push_range, read_ranges};
+use crate::text::{
+    cut, fields, number, number_then, push_number, push_range, read_ranges, reserve_ranges,
+};
 use std::alloc::Global;
 use xet_types::{ClientError, FileRange, HttpRange, MerkleHash, OutOfMemory, XorbRangeDescriptor};
 
@@ -99,6 +101,7 @@ fn second_payload(
     ensures fit { OnOk result (All (λ d. Fits64 (bytes_of d)) ranges.now) }
 {
     let mut payload = hash.hex(alloc)?;
+    reserve_ranges(&mut payload, ranges.len().saturating_add(1))?;
     push_number(&mut payload, ':', at)?;
     payload.push(':')?;
     push_runs(&mut payload, ranges)?;

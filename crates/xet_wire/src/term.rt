@@ -8,7 +8,7 @@ ghost use Rattle.xet_wire.specs.Texts.{Fits64, IsHashOf, ranges_text};
 ghost use Rattle.xet_wire.specs.Terms.{Term, term, file_bytes_of, term_payload, ReadsTermPayload, SpellsTerm, ReadsTerm, GivesTerm};
 
 use crate::payload;
-use crate::text::{cut, push_range, read_ranges};
+use crate::text::{cut, push_range, read_ranges, reserve_ranges};
 use std::alloc::Global;
 use std::marker::Model;
 use xet_types::{ClientError, FileRange, MerkleHash, OutOfMemory, XorbRangeDescriptor};
@@ -64,6 +64,7 @@ fn ranged_payload(
     ensures fit { OnOk result (All (λ d. Fits64 (file_bytes_of d)) ranges.now) }
 {
     let mut payload = hash.hex(alloc)?;
+    reserve_ranges(&mut payload, ranges.len().saturating_add(1))?;
     payload.push(':')?;
     push_file_ranges(&mut payload, ranges)?;
     Ok(payload)

@@ -1,4 +1,6 @@
 //! Worked links, terms and headers. Expected texts are those of the format, or base64 by another program.
+mod multipart;
+
 use crate::{
     FileRangeVariant, decode_term, encode_term, encode_term_with_ranges, generate_fetch_url,
     generate_v2_fetch_url, parse_any_fetch_url, parse_fetch_url, parse_range_header,

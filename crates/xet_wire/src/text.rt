@@ -123,3 +123,14 @@ pub(crate) fn push_range(
     text.push_str(digits.format(start))?;
     push_number(text, '-', end)
 }
+
+/// The most bytes that a range of a list takes.
+const RANGE_ROOM: usize = 42;
+
+/// Takes room for so many ranges of a list at once.
+pub(crate) fn reserve_ranges(text: &mut String, count: usize) -> Result<(), OutOfMemory>
+    ensures { string_bytes text.new ≡ string_bytes text.old }
+{
+    text.reserve(count.saturating_mul(RANGE_ROOM))?;
+    Ok(())
+}

@@ -1,5 +1,5 @@
 use Rattle.std.specs.Prelude.{codes}
-use Rattle.std.proofs.Common.{◌≡◌, ◌++◌, List, ℕ}
+use Rattle.std.proofs.Common.{◌≡◌, ◌++◌}
 use Rattle.xet_wire.proofs.HeaderTexts.{means_utf8, no_dash, meaning_of}
 use Rattle.xet_wire.proofs.header.meaning.Goals as goal
 

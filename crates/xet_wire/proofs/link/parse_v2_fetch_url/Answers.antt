@@ -1,4 +1,4 @@
-use Rattle.xet_wire.proofs.LinkTexts.{Only, second_reads, second_gives, undecoded_reads, undecoded_gives}
+use Rattle.xet_wire.proofs.LinkTexts.{second_reads, second_gives, undecoded_reads, undecoded_gives}
 use Rattle.xet_wire.proofs.link.parse_v2_fetch_url.Goals as goal
 
 pub returns-in-Ok-clause-value : goal.returns-in-Ok-clause-value

@@ -1,4 +1,4 @@
-use Rattle.std.proofs.Common.{rules, arith, List, take, subst}
+use Rattle.std.proofs.Common.{rules, arith, List, subst}
 use Rattle.std.specs.List.{All}
 use Rattle.std.proofs.lemmas.Grind.{common_steps}
 use Rattle.std.proofs.lemmas.List.{take_all}

@@ -1,4 +1,4 @@
-use Rattle.std.proofs.Common.{◌≡◌, ℕ, List, ap, string_bytes}
+use Rattle.std.proofs.Common.{◌≡◌, ap, string_bytes}
 use Rattle.std.proofs.lemmas.Str.{IsUtf8-string_bytes}
 use Rattle.xet_wire.proofs.payload.decode.Goals as goal
 

@@ -1,4 +1,4 @@
-use Rattle.std.proofs.Common.{arith, inr}
+use Rattle.std.proofs.Common.{inr}
 use Rattle.xet_wire.specs.Terms.{file_bytes_of}
 use Rattle.xet_wire.proofs.Written.{all_fit}
 use Rattle.xet_wire.proofs.LinkTexts.{term_written}

@@ -1,5 +1,4 @@
-use Rattle.std.proofs.Common.{inl, inr, refl}
-use Rattle.xet_wire.proofs.LinkTexts.{hash_of_cut, no_term_plain, no_term_hash, refused_term}
+use Rattle.xet_wire.proofs.LinkTexts.{no_term_plain, no_term_hash, refused_term}
 use Rattle.xet_wire.proofs.term.parse_payload.Goals as goal
 
 pub returns-in_default-from_hex : goal.returns-in_default-from_hex

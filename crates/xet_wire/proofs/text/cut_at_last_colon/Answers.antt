@@ -1,11 +1,8 @@
-use Rattle.std.proofs.Common.{◌≡◌, ℕ, ◌+◌, ◌-◌, ◌<◌, List, length, get_or, take, drop, Some, None, refl, ap, ◌∙◌, arith, rules, subst, length-drop, eq-eqb}
+use Rattle.std.proofs.Common.{◌≡◌, ℕ, ◌<◌, List, length, get_or, Some, arith, subst}
 use Rattle.std.proofs.Math.Nat.{sub-zero}
-use Rattle.std.specs.List.{Contains}
-use Rattle.std.proofs.lemmas.List.{take_all, get_or_default}
 use Rattle.std.proofs.lemmas.Bool.{eqb-true}
 use Rattle.std.proofs.lemmas.Str.{IsCharBoundary-after_ascii}
 use Rattle.memchr.specs.Find.{IsLastByte, is_byte}
-use Rattle.xet_types.specs.Keys.{IsCutAtLast}
 use Rattle.xet_types.proofs.Cuts.{cut_at_last}
 use Rattle.xet_wire.proofs.text.cut_at_last_colon.Goals as goal
 

@@ -1,10 +1,7 @@
-use Rattle.std.proofs.Common.{◌≡◌, ℕ, List, [], ◌∷◌, Result, Ok, Err, subst, rules, Vec}
+use Rattle.std.proofs.Common.{ℕ, List, [], subst, rules}
 use Rattle.std.proofs.lemmas.Result.{err_from_is_err_and}
-use Rattle.xet_types.specs.declared.error.ClientError.{ClientError}
-use Rattle.xet_types.specs.declared.error.ClientError.TheVariants.{InvalidArguments, OutOfMemory}
-use Rattle.xet_types.specs.declared.range.Range.{Range}
-use Rattle.xet_wire.specs.Texts.{pieces_of, Gains, AddsPiece, ReadsRanges, IsNoRange}
-use Rattle.xet_wire.proofs.Lists.{GoesOn, pieces_cut, pieces_none, goes_more, goes_all, goes_wrong, refused}
+use Rattle.xet_wire.specs.Texts.{pieces_of}
+use Rattle.xet_wire.proofs.Lists.{GoesOn, pieces_cut, pieces_none, goes_more, goes_all, refused}
 use Rattle.xet_wire.proofs.text.read_ranges.Goals as goal
 
 pub returns-in_err-add_piece : goal.returns-in_err-add_piece
