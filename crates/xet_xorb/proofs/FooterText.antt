@@ -11,7 +11,7 @@ use Rattle.xet_xorb.specs.XorbBytes.{xorb_text, xorb_bytes, running_sums, footer
 use Rattle.xet_xorb.proofs.Offsets.{length-steps}
 use Rattle.xet_xorb.proofs.ChunkText.{lengths-length}
 
-length-running : (from : ℕ) (ns : List ℕ) → length (running_sums from ns) ≡ length ns
+pub length-running : (from : ℕ) (ns : List ℕ) → length (running_sums from ns) ≡ length ns
 length-running from [] = refl
 length-running from (n ∷ ns) = ap suc (length-running (from + n) ns)
 

@@ -8,3 +8,7 @@ pub mod Owning
 pub mod Joining
 pub mod Indices
 pub mod WholeChunks
+pub mod Limits
+pub mod Slices
+pub mod Generating
+pub mod MetRanges

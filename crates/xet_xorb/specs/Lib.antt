@@ -7,3 +7,4 @@ pub mod Steps
 pub mod Footers
 pub mod Contents
 pub mod JoinedChunks
+pub mod Generated

@@ -4,7 +4,9 @@
 pub mod contents;
 pub mod deserialize;
 mod footer;
+mod generate;
 pub mod object;
+pub mod random;
 pub mod read;
 pub mod segment;
 pub mod serialized;
@@ -12,7 +14,9 @@ pub mod write;
 
 pub use contents::{footed_text, reconstruct_xorb_with_footer};
 pub use deserialize::deserialize_chunks;
+pub use generate::RandomChunkInfo;
 pub use object::{XorbObject, XorbObjectInfoV1};
+pub use random::RandomXorb;
 pub use read::{ReadXorb, read_chunks, read_xorb};
 pub use segment::append_chunk_segment;
 pub use serialized::SerializedXorbObject;

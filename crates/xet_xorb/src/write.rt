@@ -4,7 +4,7 @@ ghost use Rattle.std.specs.List.{flat_map};
 ghost use Rattle.xet_bytes.specs.Fields.{le32};
 ghost use Rattle.xet_xorb.specs.Lengths.{IsChunkLength};
 ghost use Rattle.xet_xorb.specs.ChunkLists.{IsWellFormed, object_of};
-ghost use Rattle.xet_xorb.specs.XorbBytes.{chunk_bytes, xorb_text, footer_bytes, WritesXorb};
+ghost use Rattle.xet_xorb.specs.XorbBytes.{header_bytes, chunk_bytes, xorb_text, footer_bytes, WritesXorb};
 
 use crate::object::XorbObject;
 use bytes::Bytes;
@@ -13,7 +13,7 @@ use xet_bytes::{put_hash, put_u24, put_u32};
 use xet_types::{ClientError, FormatFault, MerkleHash, OutOfMemory, compute_data_hash};
 
 /// Whether a chunk may be so many bytes long.
-fn is_chunk_length(length: usize) -> bool
+pub(crate) fn is_chunk_length(length: usize) -> bool
     ensures { IsTrue result ↔ IsChunkLength length }
 {
     length > 0 && length < 1 << 24
@@ -51,16 +51,24 @@ fn object_of_chunks(alloc: Global, chunks: &[Bytes]) -> Result<XorbObject, OutOf
     XorbObject::new(alloc, hashes, lengths.as_slice())
 }
 
+/// Adds the header of a chunk of so many bytes.
+pub(crate) fn put_header(out: &mut Vec<u8>, length: u32) -> Result<(), OutOfMemory>
+    requires { length < 2 ^ 24 }
+    ensures { OnOk result (out.new.items ≡ out.old.items ++ header_bytes length) }
+{
+    out.push(0)?;
+    put_u24(out, length)?;
+    out.push(0)?;
+    put_u24(out, length)?;
+    Ok(())
+}
+
 /// Adds a chunk behind its header.
 fn put_chunk(out: &mut Vec<u8>, chunk: &[u8]) -> Result<(), OutOfMemory>
     requires { length chunk.now < 2 ^ 24 }
     ensures { OnOk result (out.new.items ≡ out.old.items ++ chunk_bytes chunk.now) }
 {
-    let length = chunk.len() as u32;
-    out.push(0)?;
-    put_u24(out, length)?;
-    out.push(0)?;
-    put_u24(out, length)?;
+    put_header(out, chunk.len() as u32)?;
     out.extend_from_slice(chunk)?;
     Ok(())
 }
@@ -97,7 +105,7 @@ fn put_numbers(out: &mut Vec<u8>, numbers: &[u32]) -> Result<(), OutOfMemory>
 }
 
 /// Adds the footer of a xorb, and the footer's length in four bytes.
-fn put_footer(out: &mut Vec<u8>, object: &XorbObject) -> Result<(), OutOfMemory>
+pub(crate) fn put_footer(out: &mut Vec<u8>, object: &XorbObject) -> Result<(), OutOfMemory>
     ensures { OnOk result (out.new.items ≡ out.old.items ++ (footer_bytes object.now ++ le32 (44 + 40 * length object.now.lengths))) }
 {
     out.extend_from_slice(b"XETPORT1")?;
