@@ -1,18 +1,22 @@
 -- Entries for deduplication, in places that may be empty.
-use Rattle.std.proofs.Common.{◌≡◌, ◌∙◌, cond, true, false, Bool, List, [], ◌∷◌, ◌++◌, ◌&&◌, Option, Some, None, ℕ, zero, suc, ◌<◌, arith, length, get_or, refl, sym, ap, subst, Ordering}
+use Rattle.std.proofs.Common.{◌≡◌, ◌∙◌, cond, true, false, Bool, List, [], ◌∷◌, ◌++◌, ◌&&◌, ◌||◌, not, Option, Some, None, ℕ, zero, suc, ◌<◌, arith, length, get_or, refl, sym, ap, subst, Ordering}
 use Rattle.std.specs.Prelude.{T}
 use Rattle.std.specs.Option.{IsSome, is_some, option_and_then}
-use Rattle.std.specs.List.{flat_map}
-use Rattle.std.specs.FinMap.{get, insert, entries, is_sorted, entries_sorted, find, get-entries, get-insert, get-from_entries, same_map, get-empty}
+use Rattle.std.specs.List.{flat_map, list_any}
+use Rattle.std.specs.FinMap.{get, insert, remove, retain_keys, keys, entries, is_sorted, entries_sorted, find, get-entries, get-insert, get-remove, get-retain_keys, contains_key-keys, get-from_entries, same_map, get-empty}
 use Rattle.std.specs.FinMap as finmap
 use Rattle.std.specs.FinMap.Entries.{below_all}
 use Rattle.std.specs.Ordering.{is_eq, is_lt, eq_by_cmp}
 use Rattle.std.specs.declared.cmp.Ordering.TheVariants.{Less, Equal, Greater}
 use Rattle.std.proofs.lemmas.Cmp.{tied_itself}
-use Rattle.xet_types.specs.Names.{hash_cmp}
+use Rattle.std.proofs.lemmas.Map.Text.{is_eq-slice_cmp}
+use lib.Pointwise.{bytes_decides}
+use Rattle.xet_types.specs.Names.{hash_cmp, same_hash}
 use Rattle.xet_bytes.proofs.Maps.{hash_exact, hash_total, found}
 use Rattle.xet_store.specs.StoreModel.{with_entries}
-use Rattle.xet_store.specs.Entries.{Reserved, filled_at, filled, filled_with, HavePlaces}
+use Rattle.xet_store.specs.Commands.{is_entry, without_entries}
+use Rattle.xet_store.specs.Entries.{Reserved, filled_at, filled, filled_with, has_name, without_place, without_places, HavePlaces}
+use Rattle.xet_store.proofs.Listings.{same_turned}
 
 abbrev Place : Type 0
 Place = List ℕ × Option (List ℕ)
@@ -65,6 +69,10 @@ find_filled (e ∷ es) q h =
 
 pub get-filled : (m : Reserved) (q : List ℕ) → get (filled m) q ≡ opened (get m q)
 get-filled m q = get-from_entries hash_total (filled_places (entries m)) q ∙ find_filled (entries m) q (entries_sorted m) ∙ ap opened (sym (get-entries m q))
+
+-- the entry is what the place has
+pub entry_is : (m : Reserved) (q : List ℕ) (o : Option (Option (List ℕ))) → o ≡ get m q → opened o ≡ get (filled m) q
+entry_is m q o e = ap opened e ∙ sym (get-filled m q)
 
 -- a new empty place is no entry
 pub filled_empty : (m : Reserved) (chunk : List ℕ) → get m chunk ≡ None → filled (insert m chunk None) ≡ filled m
@@ -131,3 +139,77 @@ some_of o b e h = sym e ∙ h
 pub filled_none : filled finmap.empty ≡ finmap.empty
 filled_none = same_map hash_total hash_exact (filled finmap.empty) finmap.empty (λ q.
     get-filled finmap.empty q ∙ ap opened (get-empty hash_cmp q) ∙ sym (get-empty hash_cmp q))
+
+-- ---- entries that are taken out
+
+abbrev kept_place : Bool → Option (Option (List ℕ)) → Option (Option (List ℕ))
+kept_place gone o = cond gone None o
+
+same_by_cmp : (q chunk : List ℕ) → eq_by_cmp hash_cmp q chunk ≡ same_hash chunk q
+same_by_cmp q chunk = is_eq-slice_cmp q chunk ∙ same_turned q chunk
+
+-- what a place has after one was looked at
+get-without_place : (m : Reserved) (name chunk q : List ℕ) → get (without_place name m chunk) q ≡ kept_place (same_hash chunk q && has_name name (get m q)) (get m q)
+get-without_place m name chunk q =
+    elim (has_name name (get m chunk)) as (λ h. has_name name (get m chunk) ≡ h → get (cond h (remove m chunk) m) q ≡ kept_place (same_hash chunk q && has_name name (get m q)) (get m q)) [
+      | true ↦ λ has. get-remove hash_total m chunk q ∙ ap (λ b. kept_place b (get m q)) (same_by_cmp q chunk) ∙ taken (same_hash chunk q) refl has
+      | false ↦ λ hasnt. left (same_hash chunk q) refl hasnt
+    ] refl
+  where
+    same : same_hash chunk q ≡ true → get m chunk ≡ get m q
+    same e = ap (get m) ((bytes_decides chunk q).0 e)
+
+    taken : (s : Bool) → same_hash chunk q ≡ s → has_name name (get m chunk) ≡ true → kept_place s (get m q) ≡ kept_place (s && has_name name (get m q)) (get m q)
+    taken true e has = ap (λ b. kept_place b (get m q)) (sym has ∙ ap (has_name name) (same e))
+    taken false e has = refl
+
+    left : (s : Bool) → same_hash chunk q ≡ s → has_name name (get m chunk) ≡ false → get m q ≡ kept_place (s && has_name name (get m q)) (get m q)
+    left true e hasnt = ap (λ b. kept_place b (get m q)) (sym hasnt ∙ ap (has_name name) (same e))
+    left false e hasnt = refl
+
+-- first one place, and then others
+gone_or_later : (name : List ℕ) (s a : Bool) (o : Option (Option (List ℕ))) (h : Bool) → has_name name o ≡ h →
+    kept_place (a && has_name name (kept_place (s && h) o)) (kept_place (s && h) o) ≡ kept_place ((s || a) && h) o
+gone_or_later name true true o true e = refl
+gone_or_later name true false o true e = refl
+gone_or_later name true true o false e = ap (λ b. kept_place b o) e
+gone_or_later name true false o false e = refl
+gone_or_later name false true o true e = ap (λ b. kept_place b o) e
+gone_or_later name false false o true e = refl
+gone_or_later name false true o false e = ap (λ b. kept_place b o) e
+gone_or_later name false false o false e = refl
+
+abbrev among : List (List ℕ) → List ℕ → Bool
+among chunks q = list_any (λ c. same_hash c q) chunks
+
+get-without_places : (m : Reserved) (chunks : List (List ℕ)) (name q : List ℕ) → get (without_places m chunks name) q ≡ kept_place (among chunks q && has_name name (get m q)) (get m q)
+get-without_places m [] name q = refl
+get-without_places m (c ∷ cs) name q =
+    get-without_places (without_place name m c) cs name q
+    ∙ ap (λ (o : Option (Option (List ℕ))). kept_place (among cs q && has_name name o) o) (get-without_place m name c q)
+    ∙ gone_or_later name (same_hash c q) (among cs q) (get m q) (has_name name (get m q)) refl
+
+any_same : (f g : List ℕ → Bool) → ((x : List ℕ) → f x ≡ g x) → (xs : List (List ℕ)) → list_any f xs ≡ list_any g xs
+any_same f g e [] = refl
+any_same f g e (x ∷ xs) = ap (λ b. b || list_any f xs) (e x) ∙ ap (λ b. g x || b) (any_same f g e xs)
+
+has_place : (m : Reserved) (q : List ℕ) → among (keys m) q ≡ is_some (get m q)
+has_place m q = any_same (λ c. same_hash c q) (eq_by_cmp hash_cmp q) (λ c. sym (same_by_cmp q c)) (keys m) ∙ sym (contains_key-keys m q)
+
+there_or_not : (name : List ℕ) (o : Option (Option (List ℕ))) → kept_place (is_some o && has_name name o) o ≡ kept_place (has_name name o) o
+there_or_not name None = refl
+there_or_not name (Some p) = refl
+
+-- a place is no entry, has the name, or another
+opened_left : (name : List ℕ) (o : Option (Option (List ℕ))) → opened (kept_place (has_name name o) o) ≡ cond (not (is_entry name (opened o))) (opened o) None
+opened_left name None = refl
+opened_left name (Some p) = elim (is_entry name p) as (λ b. opened (kept_place b (Some p)) ≡ cond (not b) p None) [ true ↦ refl | false ↦ refl ]
+
+-- all places looked at, the entries are those that don't name the shard
+pub dropped : (m : Reserved) (name : List ℕ) → filled (without_places m (keys m) name) ≡ without_entries (filled m) name
+dropped m name = same_map hash_total hash_exact (filled (without_places m (keys m) name)) (without_entries (filled m) name) (λ q.
+    get-filled (without_places m (keys m) name) q
+    ∙ ap opened (get-without_places m (keys m) name q ∙ ap (λ b. kept_place (b && has_name name (get m q)) (get m q)) (has_place m q) ∙ there_or_not name (get m q))
+    ∙ opened_left name (get m q)
+    ∙ ap (λ (o : Option (List ℕ)). cond (not (is_entry name o)) o None) (sym (get-filled m q))
+    ∙ sym (get-retain_keys (filled m) (λ chunk. not (is_entry name (get (filled m) chunk))) q (λ x e. ap (λ h. not (is_entry name (get (filled m) h))) (sym (hash_exact q x e)))))

@@ -7,5 +7,13 @@ pub mod Entries
 pub mod StoreLaws
 pub mod Links
 pub mod Told
+pub mod Accepting
 pub mod Search
 pub mod Data
+pub mod Regrouped
+pub mod TermLaws
+pub mod RangesPast
+pub mod Sets
+pub mod Checking
+pub mod ReadableLaws
+pub mod ServingLaws

@@ -1,5 +1,5 @@
 -- What a store holds after a command.
-use Rattle.std.proofs.Common.{◌≡◌, ◌≢◌, ◌∙◌, ℕ, cond, true, false, List, [], ◌∷◌, ◌++◌, Option, Some, None, Result, Ok, Err, Bool, map, length, filter, not, refl, sym, ap, subst, Ordering}
+use Rattle.std.proofs.Common.{◌≡◌, ◌≢◌, ◌∙◌, ℕ, ◌<◌, arith, cond, eqb, true, false, List, [], ◌∷◌, ◌++◌, Option, Some, None, Result, Ok, Err, Bool, map, length, filter, not, refl, sym, ap, subst, Ordering}
 use Rattle.std.specs.declared.cmp.Ordering.TheVariants.{Less, Equal, Greater}
 use Rattle.std.specs.FinMap.{FinMap, get, remove, get-empty, get-insert, get-remove}
 use Rattle.std.specs.Ordering.{is_eq, eq_by_cmp}
@@ -7,6 +7,7 @@ use Rattle.std.specs.Option.{option_map, option_and_then, is_some}
 use Rattle.std.specs.List.{AllByRecursion}
 use Rattle.std.proofs.lemmas.Map.Text.{is_eq-slice_cmp}
 use lib.Pointwise.{bytes_decides}
+use Rattle.std.proofs.lemmas.Bool.{eqb-false}
 use Rattle.std.proofs.lemmas.Cmp.{tied_itself}
 use Rattle.xet_types.specs.declared.error.Refusal.{Refusal}
 use Rattle.xet_types.specs.declared.error.Refusal.TheVariants as refusals
@@ -15,13 +16,14 @@ use Rattle.xet_types.specs.Names.{hash_cmp, same_hash, xorb_name}
 use Rattle.xet_bytes.proofs.Maps.{hash_exact, hash_total}
 use Rattle.xet_xorb.specs.Values.{Xorb}
 use Rattle.xet_xorb.specs.ChunkLists.{IsWellFormed, object_of}
+use Rattle.xet_xorb.specs.Generated.{seeded_chunks}
 use Rattle.xet_shard.specs.declared.listing.Segment.{Segment}
 use Rattle.xet_shard.specs.Values.{Listing}
 use Rattle.xet_shard.specs.Listings.{ShardModel}
 use Rattle.xet_shard.specs.Canonical.{shard_name, canonical_of}
 use Rattle.xet_plan.specs.FileBytes.{Describes}
 use Rattle.xet_store.specs.StoreModel.{StoreModel, Chunks, Hashes, empty, stored, listing, lists, last_shard, IsSound, NamesDiffer, known_of, content_of, with_xorb, with_shard, without_shard, shard_named, shown, accepted, or_else, listed_in}
-use Rattle.xet_store.specs.Commands.{UploadsXorb, UploadsOver, UploadsFresh, UploadsShard, done, delete_shard}
+use Rattle.xet_store.specs.Commands.{Outcome, UploadsXorb, UploadsOver, UploadsFresh, UploadsShard, done, delete_shard, set_max_ranges, InsertsSeeded}
 use Rattle.xet_store.proofs.Listings.{same_turned}
 
 -- ---- xorbs
@@ -70,6 +72,7 @@ empty_sound = record {
       let no : ⊥ = cc in
       absurd no);
   shards = tt;
+  max_ranges = omega arith;
 }
 
 pub with_xorb_sound : (m : StoreModel) (hash : List ℕ) (chunks : Chunks) → IsSound m → IsWellFormed chunks → xorb_name chunks ≡ hash → IsSound (with_xorb m hash chunks)
@@ -85,6 +88,7 @@ with_xorb_sound m hash chunks sound formed named = record {
       ] in
       by (hash_cmp other hash) refl (sym (get-insert hash_total m.xorbs hash chunks other) ∙ e));
   shards = sound.shards;
+  max_ranges = sound.max_ranges;
 }
 
 -- a store of some of the xorbs
@@ -96,14 +100,31 @@ fewer_sound m hash sound = record {
         | false ↦ λ k. sound.xorbs other found k
       ] (sym (get-remove hash_total m.xorbs hash other) ∙ e));
   shards = sound.shards;
+  max_ranges = sound.max_ranges;
 }
 
--- a store of the same xorbs and shards
-pub same_sound : (m n : StoreModel) → n.xorbs ≡ m.xorbs → n.shards ≡ m.shards → IsSound m → IsSound n
-same_sound m n same_xorbs same_shards sound = record {
+-- a store of the same xorbs and shards, with the same maximum
+pub same_sound : (m n : StoreModel) → n.xorbs ≡ m.xorbs → n.shards ≡ m.shards → n.max_ranges ≡ m.max_ranges → IsSound m → IsSound n
+same_sound m n same_xorbs same_shards same_max sound = record {
   xorbs = λ hash chunks e. sound.xorbs hash chunks (ap (λ (xs : FinMap hash_cmp Chunks). get xs hash) (sym same_xorbs) ∙ e);
   shards = subst NamesDiffer (sym same_shards) sound.shards;
+  max_ranges = subst (λ k. 0 < k) (sym same_max) sound.max_ranges;
 }
+
+-- a store of another maximum
+pub with_max_sound : (m : StoreModel) (max : ℕ) → 0 < max → IsSound m → IsSound (record m { max_ranges = max })
+with_max_sound m max some sound = record { xorbs = sound.xorbs; shards = sound.shards; max_ranges = some }
+
+-- what setting the maximum leaves
+pub set_max_sound : (m : StoreModel) (max : ℕ) → IsSound m → IsSound (set_max_ranges m max).1
+set_max_sound m max sound = of (eqb max 0) refl
+  where
+    refused : Outcome (Unit {0})
+    refused = (Err refusals.InvalidArguments, m)
+
+    of : (b : Bool) → eqb max 0 ≡ b → IsSound (cond b refused (done (record m { max_ranges = max }))).1
+    of true e = sound
+    of false e = let some : max ≢ 0 = eqb-false max 0 e in with_max_sound m max (omega (arith, some)) sound
 
 -- ---- names of shards
 
@@ -138,12 +159,13 @@ names_push [] s a b = (tt, tt)
 names_push (t ∷ ts) s a b = (all_push (λ u. shard_name u ≢ shard_name t) ts s a.0 (λ same. b.0 (sym same)), names_push ts s a.1 b.1)
 
 pub without_shard_sound : (m : StoreModel) (name : List ℕ) → IsSound m → IsSound (record m { shards = without_shard m.shards name })
-without_shard_sound m name sound = record { xorbs = sound.xorbs; shards = names_filter (λ t. not (same_hash (shard_name t) name)) m.shards sound.shards }
+without_shard_sound m name sound = record { xorbs = sound.xorbs; shards = names_filter (λ t. not (same_hash (shard_name t) name)) m.shards sound.shards; max_ranges = sound.max_ranges }
 
 pub accepted_sound : (m : StoreModel) (shard : ShardModel) → IsSound m → IsSound (accepted m shard)
 accepted_sound m shard sound = record {
   xorbs = sound.xorbs;
   shards = names_push (without_shard m.shards (shard_name shard)) shard (names_filter (λ t. not (same_hash (shard_name t) (shard_name shard))) m.shards sound.shards) (name_is_gone m.shards (shard_name shard));
+  max_ranges = sound.max_ranges;
 }
 
 fresh_sound : (old new : StoreModel) (hash content : List ℕ) (result : Result ℕ Refusal) → UploadsFresh old hash content result new → IsSound old → IsSound new
@@ -159,6 +181,18 @@ over_sound None old new hash content result u sound = fresh_sound old new hash c
 -- an upload of a xorb keeps a store sound
 pub uploads_xorb_sound : (old new : StoreModel) (hash content : List ℕ) (result : Result ℕ Refusal) → UploadsXorb old hash content result new → IsSound old → IsSound new
 uploads_xorb_sound old new hash content result u sound = over_sound (stored old hash) old new hash content result u sound
+
+-- and so does a generated xorb
+absent_sound : (b : Bool) (old : StoreModel) (hash : List ℕ) (chunks : Chunks) → IsWellFormed chunks → xorb_name chunks ≡ hash → IsSound old → IsSound (cond b old (with_xorb old hash chunks))
+absent_sound true old hash chunks formed named sound = sound
+absent_sound false old hash chunks formed named sound = with_xorb_sound old hash chunks sound formed named
+
+pub inserts_sound : (old new : StoreModel) (seed count size : ℕ) (result : Result (List ℕ) Refusal) → InsertsSeeded old seed count size result new → IsSound old → IsSound new
+inserts_sound old new seed count size (Ok hash) u sound =
+    let chunks = seeded_chunks seed count size in
+    subst IsSound (sym u.1.1) (absent_sound (is_some (stored old (xorb_name chunks))) old (xorb_name chunks) chunks u.0 refl sound)
+inserts_sound old new seed count size (Err refusals.InvalidArguments) u sound = subst IsSound (sym u.1) sound
+inserts_sound old new seed count size (Err why) u sound = absurd u
 
 -- and so does one of a shard
 pub uploads_shard_sound : (old new : StoreModel) (content : List ℕ) (result : Result Bool Refusal) → UploadsShard old content result new → IsSound old → IsSound new

@@ -1,13 +1,14 @@
 -- What the commands of a store answer and leave.
-use Rattle.std.specs.Prelude.{◌≡◌, ◌≢◌, ℕ, Bool, true, List, Option, Some, None, Result, Ok, Err, if◌then◌else◌}
+use Rattle.std.specs.Prelude.{◌≡◌, ◌≢◌, ℕ, ◌==◌, Bool, true, List, Option, Some, None, Result, Ok, Err, if◌then◌else◌, ◌+◌, ◌/◌, nat_eq, false, not}
 use Rattle.std.specs.Option.{is_some}
-use Rattle.std.specs.FinMap.{insert, remove}
+use Rattle.std.specs.FinMap.{FinMap, get, insert, remove, retain_keys}
 use Rattle.xet_types.specs.declared.error.Refusal.{Refusal}
-use Rattle.xet_types.specs.declared.error.Refusal.TheVariants.{FormatError, Other}
+use Rattle.xet_types.specs.declared.error.Refusal.TheVariants.{FormatError, InvalidArguments, Other}
 use Rattle.xet_types.specs.declared.error.FormatFault.TheVariants as faults
-use Rattle.xet_types.specs.Names.{xorb_name}
+use Rattle.xet_types.specs.Names.{hash_cmp, same_hash, xorb_name}
 use Rattle.xet_xorb.specs.Lengths.{serialized_length}
-use Rattle.xet_xorb.specs.ChunkLists.{lengths_of}
+use Rattle.xet_xorb.specs.ChunkLists.{IsWellFormed, lengths_of}
+use Rattle.xet_xorb.specs.Generated.{seeded_chunks}
 use Rattle.xet_xorb.specs.XorbBytes.{IsXorbText}
 use Rattle.xet_shard.specs.Listings.{ShardModel}
 use Rattle.xet_shard.specs.ShardBytes.{IsReadAs}
@@ -84,3 +85,48 @@ delete_xorb old hash = done (record old { xorbs = remove old.xorbs hash })
 -- the age in milliseconds above which a link is expired
 abbrev pub set_expiration : StoreModel → ℕ → Outcome (Unit {0})
 set_expiration old millis = done (record old { expiration = millis })
+
+-- the most runs that a link of version 2 brings, which must be some
+abbrev pub set_max_ranges : StoreModel → ℕ → Outcome (Unit {0})
+set_max_ranges old max = if max == 0 then (Err InvalidArguments, old) else done (record old { max_ranges = max })
+
+-- a time in milliseconds as whole seconds, rounded up
+abbrev pub seconds_of : ℕ → ℕ
+seconds_of millis = (millis + 999) / 1000
+
+-- no time, also where it is 0
+abbrev pub seconds_asked : Option ℕ → Option ℕ
+seconds_asked None = None
+seconds_asked (Some millis) = if nat_eq millis 0 then None else Some (seconds_of millis)
+
+-- for how long an answer to a query for deduplication is good, in milliseconds; kept in whole seconds
+abbrev pub set_dedup_expiration : StoreModel → Option ℕ → Outcome (Unit {0})
+set_dedup_expiration old millis = done (record old { dedup_seconds = seconds_asked millis })
+
+abbrev pub is_entry : List ℕ → Option (List ℕ) → Bool
+is_entry name None = false
+is_entry name (Some n) = same_hash n name
+
+-- the entries but those that name the shard
+abbrev pub without_entries : FinMap hash_cmp (List ℕ) → List ℕ → FinMap hash_cmp (List ℕ)
+without_entries dedup name = retain_keys dedup (λ chunk. not (is_entry name (get dedup chunk)))
+
+-- the entries for deduplication that name a shard go, whether it is stored or not
+abbrev pub drop_dedup : StoreModel → List ℕ → Outcome (Unit {0})
+drop_dedup old name = done (record old { dedup = without_entries old.dedup name })
+
+-- ---- generated xorbs
+
+-- the xorb under its name, where none is stored there
+abbrev pub with_absent : StoreModel → Chunks → StoreModel
+with_absent old chunks = if is_some (stored old (xorb_name chunks)) then old else with_xorb old (xorb_name chunks) chunks
+
+-- its name is the answer
+abbrev pub insert_xorb : StoreModel → Chunks → Outcome (List ℕ)
+insert_xorb old chunks = (Ok (xorb_name chunks), with_absent old chunks)
+
+-- The xorb of so many chunks of one length from one seed is stored, where these are the chunks of a xorb.
+abbrev pub InsertsSeeded : StoreModel → ℕ → ℕ → ℕ → Result (List ℕ) Refusal → StoreModel → Type 0
+InsertsSeeded old seed count size (Ok hash) new = IsWellFormed (seeded_chunks seed count size) × Is (insert_xorb old (seeded_chunks seed count size)) (Ok hash) new
+InsertsSeeded old seed count size (Err InvalidArguments) new = (IsWellFormed (seeded_chunks seed count size) → ⊥) × (new ≡ old)
+InsertsSeeded old seed count size (Err why) new = ⊥

@@ -9,12 +9,13 @@ use Rattle.xet_types.specs.Names.{hash_cmp}
 use Rattle.xet_bytes.specs.Pairs.{pair_cmp}
 use Rattle.xet_shard.specs.Values.{Listing}
 use Rattle.xet_shard.specs.Listings.{ShardModel}
-use Rattle.xet_shard.specs.Canonical.{shard_name, file_hash_of}
+use Rattle.xet_shard.specs.Canonical.{shard_name, canonical_of, file_hash_of}
 use Rattle.xet_store.specs.StoreModel.{lists}
 
--- the shard has this name, and its files rise by hash
+-- the shard has this name, is its own canonical form, and its files rise by hash
 pub record IsKeptShard (name : List ℕ) (shard : ShardModel) : Type 0 where
   pub named : name ≡ shard_name shard
+  pub canonical : canonical_of shard ≡ shard
   pub rises : IsStrictlySortedBy hash_cmp (map file_hash_of shard.files)
 
 -- the shards by serial number

@@ -5,8 +5,13 @@ pub mod Plans
 pub mod Cuts
 pub mod Told
 pub mod Refusals
+pub mod Acceptance
 pub mod Questions
 pub mod Responses
 pub mod Kept
 pub mod Indexed
 pub mod Entries
+pub mod TermData
+pub mod Lists
+pub mod Checks
+pub mod Checking

@@ -1,21 +1,24 @@
 -- What a store answers that is only asked.
-use Rattle.std.specs.Prelude.{ℕ, Bool, ◌||◌, nat_lt, nat_le, min, List, length, slice_range, Option, Some, None, Result, Ok, Err, if◌then◌else◌}
-use Rattle.std.specs.Option.{is_some, option_map}
-use Rattle.std.specs.FinMap.{keys}
+use Rattle.std.specs.Prelude.{◌≡◌, ℕ, ◌+◌, ◌-◌, ◌/◌, ◌^◌, Bool, false, ◌||◌, ◌&&◌, nat_lt, nat_le, min, List, [], ◌∷◌, map, sum, length, slice_range, Option, Some, None, Result, Ok, Err, if◌then◌else◌}
+use Rattle.std.specs.Global.{Vec}
+use Rattle.std.specs.Option.{is_some, option_map, option_and_then}
+use Rattle.std.specs.FinMap.{get, keys}
 use Rattle.xet_types.specs.declared.error.Refusal.{Refusal}
 use Rattle.xet_types.specs.declared.error.Refusal.TheVariants.{FileNotFound, XORBNotFound, InvalidRange}
 use Rattle.xet_types.specs.declared.range.Range.{Range}
 use Rattle.xet_types.specs.declared.range._F.{_F}
 use Rattle.xet_xorb.specs.Lengths.{serialized_length}
 use Rattle.xet_xorb.specs.Values.{Xorb}
-use Rattle.xet_xorb.specs.ChunkLists.{lengths_of, object_of}
+use Rattle.xet_xorb.specs.ChunkLists.{lengths_of, object_of, joined}
 use Rattle.xet_xorb.specs.XorbBytes.{xorb_bytes}
 use Rattle.xet_shard.specs.declared.listing.Segment.{Segment}
 use Rattle.xet_shard.specs.Values.{Listing, size_of}
-use Rattle.xet_shard.specs.Canonical.{shard_name}
+use Rattle.xet_shard.specs.Listings.{ShardModel, xorb_subset}
+use Rattle.xet_shard.specs.ShardBytes.{shard_bytes}
+use Rattle.xet_shard.specs.Canonical.{shard_name, canonical_text}
 use Rattle.xet_plan.specs.Places.{Interval, interval, first_fault}
 use Rattle.xet_plan.specs.FileBytes.{file_bytes}
-use Rattle.xet_store.specs.StoreModel.{StoreModel, Chunks, stored, live, listing, known_of, content_of}
+use Rattle.xet_store.specs.StoreModel.{StoreModel, Chunks, stored, live, listing, known_of, content_of, shard_named}
 
 -- The bytes that a range asks of so many. No range asks all. None where the start is at or past the end of all, or the range's
 -- end is below its start; a range whose ends are equal asks no bytes.
@@ -95,3 +98,58 @@ bytes_asked bytes range = sliced bytes (asked (length bytes) range)
 -- the bytes of a xorb with its footer that the range asks
 abbrev pub xorb_raw_bytes : StoreModel → List ℕ → Option (Range ℕ _F) → Result (List ℕ) Refusal
 xorb_raw_bytes m hash range = of_xorb hash (λ chunks. bytes_asked (xorb_bytes chunks) range) (stored m hash)
+
+-- its chunks, joined
+abbrev pub full_xorb : StoreModel → List ℕ → Result (List ℕ) Refusal
+full_xorb m hash = of_xorb hash (λ chunks. Ok (joined chunks)) (stored m hash)
+
+-- how many bytes its chunks have together
+abbrev pub xorb_length : StoreModel → List ℕ → Result ℕ Refusal
+xorb_length m hash = of_xorb hash (λ chunks. Ok (sum (lengths_of chunks))) (stored m hash)
+
+-- of so many chunks some in the range aren't there
+abbrev pub is_past : ℕ → ℕ × ℕ → Bool
+is_past count range = nat_lt range.0 range.1 && nat_lt count range.1
+
+abbrev pub any_past : ℕ → List (ℕ × ℕ) → Bool
+any_past count [] = false
+any_past count (range ∷ ranges) = is_past count range || any_past count ranges
+
+-- the chunks of a range, joined; no bytes where it is empty or reversed
+abbrev pub range_bytes : Chunks → ℕ × ℕ → List ℕ
+range_bytes chunks range = joined (slice_range chunks range.0 range.1)
+
+-- the bytes of each range, where no range goes past the last chunk
+abbrev pub bytes_of_ranges : List (ℕ × ℕ) → Chunks → Result (List (List ℕ)) Refusal
+bytes_of_ranges ranges chunks = if any_past (length chunks) ranges then Err InvalidRange else Ok (map (range_bytes chunks) ranges)
+
+-- The bytes of ranges of a xorb's chunks. Where no range is given, no xorb is asked, and there is one text without bytes.
+abbrev pub xorb_ranges : StoreModel → List ℕ → List (ℕ × ℕ) → Result (List (List ℕ)) Refusal
+xorb_ranges m hash [] = Ok ([] ∷ [])
+xorb_ranges m hash (range ∷ ranges) = of_xorb hash (bytes_of_ranges (range ∷ ranges)) (stored m hash)
+
+-- the answer has these items, or is this refusal
+abbrev pub HasItems : {T : Type 0} → Result (List T) Refusal → Result (Vec T) Refusal → Type 0
+HasItems (Ok items) (Ok v) = v.items ≡ items
+HasItems (Err why) (Err e) = e ≡ why
+HasItems (Ok items) (Err e) = ⊥
+HasItems (Err why) (Ok v) = ⊥
+
+-- ---- deduplication
+
+-- the moment in whole seconds at which an answer given at a moment in milliseconds expires
+abbrev pub expiry_at : ℕ → ℕ → ℕ
+expiry_at at seconds = min (at / 1000 + seconds) (2 ^ 64 - 1)
+
+-- a shard as it is answered: its canonical text; where answers expire, its xorbs without files, with the moment
+abbrev pub dedup_text : Option ℕ → ℕ → ShardModel → List ℕ
+dedup_text None at s = canonical_text s
+dedup_text (Some seconds) at s = shard_bytes (xorb_subset s (expiry_at at seconds))
+
+-- the stored shard that the chunk's entry names
+abbrev pub dedup_shard : StoreModel → List ℕ → Option ShardModel
+dedup_shard m chunk = option_and_then (shard_named m.shards) (get m.dedup chunk)
+
+-- the text of the shard that has the chunk, at a moment in milliseconds
+abbrev pub dedup_answer : StoreModel → List ℕ → ℕ → Option (List ℕ)
+dedup_answer m chunk at = option_map (dedup_text m.dedup_seconds at) (dedup_shard m chunk)

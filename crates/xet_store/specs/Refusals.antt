@@ -2,7 +2,7 @@
 use Rattle.std.specs.Prelude.{◌≡◌, ℕ, List, Option, Some, None, Result, Ok, Err}
 use Rattle.xet_types.specs.declared.error.ClientError.{ClientError}
 use Rattle.xet_types.specs.declared.error.Refusal.{Refusal}
-use Rattle.xet_types.specs.declared.error.Refusal.TheVariants.{FormatError, InvalidRange, FileNotFound, XORBNotFound, IOError, Other}
+use Rattle.xet_types.specs.declared.error.Refusal.TheVariants.{FormatError, InvalidRange, InvalidArguments, FileNotFound, XORBNotFound, PresignedUrlExpirationError, IOError, Other}
 use Rattle.xet_types.specs.declared.error.FormatFault.TheVariants as faults
 use Rattle.xet_types.specs.Faults.{refusal_of}
 
@@ -35,6 +35,19 @@ OfShardUpload why = OfOutside why
 abbrev pub OfShardDeletion : Refusal → Type 0
 OfShardDeletion Other = Unit {0}
 OfShardDeletion why = OfOutside why
+
+-- the shard isn't stored, or isn't there any more, or not whole
+abbrev pub OfShardText : Refusal → Type 0
+OfShardText Other = Unit {0}
+OfShardText (FormatError faults.Shard) = Unit {0}
+OfShardText why = OfOutside why
+
+-- a check fails, or something that was stored isn't there any more, or not whole
+abbrev pub OfCheck : Refusal → Type 0
+OfCheck Other = Unit {0}
+OfCheck (FormatError faults.Shard) = Unit {0}
+OfCheck (FormatError faults.Xorb) = Unit {0}
+OfCheck why = OfOutside why
 
 -- a shard that was stored isn't there any more, or not whole
 abbrev pub OfListing : Refusal → Type 0
@@ -69,3 +82,23 @@ OfPlan why = OfListing why
 abbrev pub OfFileData : List ℕ → Refusal → Type 0
 OfFileData file (FileNotFound f) = f ≡ file
 OfFileData file why = OfPlan why
+
+-- the setting has no such value
+abbrev pub OfSetting : Refusal → Type 0
+OfSetting InvalidArguments = Unit {0}
+OfSetting why = OfOutside why
+
+-- the link isn't one of version 1 of these bytes, or is expired; its xorb isn't stored, isn't there any more or not whole, or hasn't the
+-- chunks
+abbrev pub OfTerm : Refusal → Type 0
+OfTerm InvalidArguments = Unit {0}
+OfTerm PresignedUrlExpirationError = Unit {0}
+OfTerm (XORBNotFound h) = Unit {0}
+OfTerm (FormatError faults.Xorb) = Unit {0}
+OfTerm InvalidRange = Unit {0}
+OfTerm why = OfOutside why
+
+-- the chunks aren't those of a xorb
+abbrev pub OfGenerated : Refusal → Type 0
+OfGenerated InvalidArguments = Unit {0}
+OfGenerated why = OfOutside why

@@ -1,10 +1,10 @@
 -- What a store holds, and which segments it lists for a file.
-use Rattle.std.specs.Prelude.{◌≡◌, ◌≢◌, ℕ, Bool, List, [], ◌∷◌, ◌++◌, filter, not, Option, Some, None, if◌then◌else◌, refl}
+use Rattle.std.specs.Prelude.{◌≡◌, ◌≢◌, ℕ, ◌<◌, Bool, List, [], ◌∷◌, ◌++◌, filter, not, Option, Some, None, if◌then◌else◌, refl}
 use Rattle.std.specs.Option.{option_map, option_and_then, is_some}
 use Rattle.std.specs.List.{AllByRecursion, fold}
 use Rattle.std.specs.FinMap.{FinMap, code, get, insert, remove}
 use Rattle.std.specs.FinMap as finmap
-use Rattle.std.specs.Coded.{Coded, code_by, coded×, coded_list, coded_ℕ}
+use Rattle.std.specs.Coded.{Coded, code_by, coded×, coded_list, coded_option, coded_ℕ}
 use base.Stored.{coded_unit}
 use Rattle.xet_types.specs.Names.{hash_cmp, same_hash, xorb_name}
 use Rattle.xet_xorb.specs.ChunkLists.{IsWellFormed, object_of}
@@ -26,28 +26,35 @@ abbrev pub Hashes : Type 0
 Hashes = FinMap hash_cmp (Unit {0})
 
 -- the chunk lists of the stored xorbs by hash; the canonical shards in order of acceptance; the hidden files; for each chunk that
--- has an entry the name of a shard; and the age in milliseconds above which a link is expired
+-- has an entry the name of a shard; the age in milliseconds above which a link is expired; the most runs that a link of version 2
+-- brings; and for how many seconds an answer to a query for deduplication is good, where that is set
 pub record StoreModel : Type 0 where
   pub xorbs : FinMap hash_cmp Chunks
   pub shards : List ShardModel
   pub hidden : Hashes
   pub dedup : FinMap hash_cmp (List ℕ)
   pub expiration : ℕ
+  pub max_ranges : ℕ
+  pub dedup_seconds : Option ℕ
 
 abbrev pub store_code : Coded StoreModel
 store_code =
-    code_by (FinMap hash_cmp Chunks × (List ShardModel × (Hashes × (FinMap hash_cmp (List ℕ) × ℕ))))
-    (coded× (code (coded_list coded_ℕ) (coded_list (coded_list coded_ℕ))) (coded× (coded_list the_row.coded) (coded× (code (coded_list coded_ℕ) coded_unit) (coded× (code (coded_list coded_ℕ) (coded_list coded_ℕ)) coded_ℕ))))
-    (λ m. (m.xorbs, (m.shards, (m.hidden, (m.dedup, m.expiration)))))
-    (λ p. record { xorbs = p.0; shards = p.1.0; hidden = p.1.1.0; dedup = p.1.1.1.0; expiration = p.1.1.1.1 }) (λ _. refl)
+    code_by (FinMap hash_cmp Chunks × (List ShardModel × (Hashes × (FinMap hash_cmp (List ℕ) × (ℕ × (ℕ × Option ℕ))))))
+    (coded× (code (coded_list coded_ℕ) (coded_list (coded_list coded_ℕ))) (coded× (coded_list the_row.coded) (coded× (code (coded_list coded_ℕ) coded_unit) (coded× (code (coded_list coded_ℕ) (coded_list coded_ℕ)) (coded× coded_ℕ (coded× coded_ℕ (coded_option coded_ℕ)))))))
+    (λ m. (m.xorbs, (m.shards, (m.hidden, (m.dedup, (m.expiration, (m.max_ranges, m.dedup_seconds)))))))
+    (λ p. record { xorbs = p.0; shards = p.1.0; hidden = p.1.1.0; dedup = p.1.1.1.0; expiration = p.1.1.1.1.0; max_ranges = p.1.1.1.1.1.0; dedup_seconds = p.1.1.1.1.1.1 }) (λ _. refl)
 
 -- the expiration that is set at first: links don't expire
 abbrev pub never : ℕ
 never = 18446744073709551615
 
--- a store without xorbs and shards
+-- the maximum that is set at first: a link brings any number of runs
+abbrev pub unlimited : ℕ
+unlimited = 18446744073709551615
+
+-- a store without xorbs and shards, whose answers don't expire
 abbrev pub empty : StoreModel
-empty = record { xorbs = finmap.empty; shards = []; hidden = finmap.empty; dedup = finmap.empty; expiration = never }
+empty = record { xorbs = finmap.empty; shards = []; hidden = finmap.empty; dedup = finmap.empty; expiration = never; max_ranges = unlimited; dedup_seconds = None }
 
 -- the chunks of the xorb
 abbrev pub stored : StoreModel → List ℕ → Option Chunks
@@ -58,10 +65,11 @@ abbrev pub NamesDiffer : List ShardModel → Type 0
 NamesDiffer [] = Unit {0}
 NamesDiffer (s ∷ ss) = AllByRecursion (λ t. shard_name t ≢ shard_name s) ss × NamesDiffer ss
 
--- each stored chunk list is well formed, and its hash is its name; no two shards have one name
+-- each stored chunk list is well formed, and its hash is its name; no two shards have one name; and a link may bring a run
 pub record IsSound (m : StoreModel) : Type 0 where
   pub xorbs : (hash : List ℕ) (chunks : Chunks) → stored m hash ≡ Some chunks → IsWellFormed chunks × (xorb_name chunks ≡ hash)
   pub shards : NamesDiffer m.shards
+  pub max_ranges : 0 < m.max_ranges
 
 -- what is known of the stored xorbs without their bytes
 abbrev pub known_of : StoreModel → Known

@@ -9,7 +9,7 @@ pub mod store;
 
 pub use client::Client;
 pub use deletion::DeletionControlableClient;
-pub use direct_access::DirectAccessClient;
+pub use direct_access::{DirectAccessClient, second_plans_are_regrouped};
 pub use memory::MemoryClient;
 pub use store::Store;
 

@@ -1,24 +1,33 @@
 //! The store in memory.
-ghost use Rattle.std.specs.Prelude.{◌≡◌, ◌<◌, ◌≤◌, IfSome, IsSome, IfErr, OnOk, OnErr, Ok, Err, Some, None, ⊤};
+ghost use Rattle.std.specs.Prelude.{◌≡◌, ◌<◌, ◌≤◌, IfOk, IfSome, IsSome, IfErr, OnOk, OnErr, Ok, Err, Some, None, ⊤};
 ghost use Rattle.std.specs.Option.{option_map, option_copied};
 ghost use Rattle.std.specs.FinMap.{get};
 ghost use Rattle.xet_types.specs.Faults.{refusal_of};
-ghost use Rattle.xet_types.specs.declared.error.Refusal.TheVariants.{Other};
+ghost use Rattle.xet_types.specs.declared.error.Refusal.TheVariants.{Other, InvalidArguments};
+ghost use Rattle.xet_types.specs.declared.error.ClientError.TheVariants as errors;
 ghost use Rattle.xet_store.specs.StoreModel.{accepted, shown, listing, live, shard_named};
 ghost use Rattle.xet_store.specs.Answered.{Answered};
-ghost use Rattle.xet_store.specs.Commands.{UploadsXorb, UploadsShard, delete_xorb, delete_shard, hide_file, set_expiration};
+ghost use Rattle.xet_store.specs.Commands.{UploadsXorb, UploadsShard, delete_xorb, delete_shard, hide_file, set_expiration, set_max_ranges, set_dedup_expiration, seconds_asked};
 ghost use Rattle.xet_shard.specs.Values.{size_of};
 ghost use Rattle.xet_plan.specs.Places.{interval};
-ghost use Rattle.xet_store.specs.Questions.{asked, data_at};
+ghost use Rattle.xet_store.specs.Questions.{asked, data_at, dedup_shard};
 ghost use Rattle.xet_store.specs.Kept.{IsListed, range_interval};
 ghost use Rattle.xet_store.specs.Plans.{PlansFile};
 ghost use Rattle.xet_store.specs.Cuts.{cut_of};
+ghost use Rattle.xet_store.specs.Responses.{RespondsInGroups};
+ghost use Rattle.xet_store.specs.Refusals.{RefusedBy, OfPlan};
+ghost use Rattle.std.specs.List.{list_all};
+ghost use Rattle.xet_store.specs.Checks.{checked, all_readable, readable};
 
+mod checks;
 mod data;
 mod entries;
 mod first;
 mod footers;
+mod lists;
+mod second;
 mod shards;
+mod term;
 mod xorb;
 
 use crate::client::Client;
@@ -26,21 +35,25 @@ use crate::deletion::DeletionControlableClient;
 use crate::direct_access::DirectAccessClient;
 use crate::store::Store;
 use bytes::Bytes;
+use checks::{are_readable, listed_files};
 use data::assemble;
-use entries::{fill, reserve};
+use entries::{drop_named, entry, fill, reserve};
 use first::first;
 use footers::StoredFooters;
+use second::second;
 use shards::{KeptShard, ShardTable};
 use std::alloc::Global;
 use std::marker::Model;
 use std::sync::Arc;
+use term::{join, named_xorb};
 use xet_bytes::ByHash;
 use xet_plan::{Footers, Plan, compute_reconstruction_ranges};
 use xet_shard::{FileListing, eligible_among_xorbs, read_shard};
 use xet_types::{
-    ChunkRange, ClientError, FileRange, Items, MerkleHash, OutOfMemory, QueryReconstructionResponse,
+    ChunkRange, ClientError, FileRange, Items, MerkleHash, OutOfMemory,
+    QueryReconstructionResponse, QueryReconstructionResponseV2, XorbReconstructionFetchInfo,
 };
-use xet_xorb::{SerializedXorbObject, XorbObject, read_xorb};
+use xet_xorb::{RandomXorb, SerializedXorbObject, XorbObject, read_xorb};
 use xorb::StoredXorb;
 
 /// A store in memory, which contracts see as its model.
@@ -53,6 +66,10 @@ pub struct MemoryClient {
     dedup: ByHash<Option<MerkleHash>>,
     /// In milliseconds.
     expiration: u64,
+    /// How many runs a link of version 2 brings at most.
+    max_ranges: usize,
+    /// For how many seconds an answer to a query for deduplication is good.
+    dedup_seconds: Option<u64>,
 }
 
 impl Model for MemoryClient {
@@ -63,9 +80,9 @@ impl Model for MemoryClient {
 
     ghost coded = { store_code };
 
-    ghost view = { λ s. record { xorbs = s.xorbs; shards = s.shards; hidden = s.hidden; dedup = filled s.dedup; expiration = s.expiration } };
+    ghost view = { λ s. record { xorbs = s.xorbs; shards = s.shards; hidden = s.hidden; dedup = filled s.dedup; expiration = s.expiration; max_ranges = s.max_ranges; dedup_seconds = s.dedup_seconds } };
 
-    ghost invariant = { λ s. IsSound (record { xorbs = s.xorbs; shards = s.shards; hidden = s.hidden; dedup = filled s.dedup; expiration = s.expiration }) };
+    ghost invariant = { λ s. IsSound (record { xorbs = s.xorbs; shards = s.shards; hidden = s.hidden; dedup = filled s.dedup; expiration = s.expiration; max_ranges = s.max_ranges; dedup_seconds = s.dedup_seconds }) };
 }
 
 /// Shows the files again.
@@ -90,6 +107,8 @@ impl MemoryClient {
             hidden: ByHash::new(alloc),
             dedup: ByHash::new(alloc),
             expiration: u64::MAX,
+            max_ranges: usize::MAX,
+            dedup_seconds: None,
         }
     }
 
@@ -147,6 +166,14 @@ impl MemoryClient {
         Ok(())
     }
 
+    /// The stored shard that the chunk's entry names.
+    fn dedup_shard(&self, chunk: &MerkleHash) -> Option<&KeptShard>
+        ensures { option_copied result ≡ dedup_shard self.now chunk.now }
+    {
+        let name = entry(&self.dedup, chunk)?;
+        self.shards.get(&name)
+    }
+
     /// The last shard that lists a live file.
     fn live(&self, file: &MerkleHash) -> Option<&KeptShard>
         ensures { option_copied result ≡ live self.now file.now }
@@ -162,6 +189,36 @@ impl MemoryClient {
         ensures { IsListed file.now (listing self.now file.now) result }
     {
         self.live(file)?.listing(file)
+    }
+
+    /// Whether the segments of a file that have bytes agree with their xorbs, where the file is live.
+    fn is_file_readable(&self, file: &MerkleHash) -> bool
+        ensures { result ≡ all_readable self.now (listing self.now file.now) }
+    {
+        let Some(listing) = self.listing(file) else {
+            return true;
+        };
+        are_readable(&self.xorbs, listing.segments())
+    }
+
+    /// Whether each of the files is readable.
+    fn are_files_readable(&self, files: &[MerkleHash]) -> bool
+        ensures { result ≡ list_all (λ file. all_readable self.now (listing self.now file)) files.now }
+    {
+        for file in files {
+            if !self.is_file_readable(file) {
+                return false;
+            }
+        }
+        true
+    }
+
+    /// Whether each live file is readable.
+    fn is_readable(&self, alloc: Global) -> Result<bool, OutOfMemory>
+        ensures { IfOk result (λ holds. holds ≡ readable self.now) }
+    {
+        let files = listed_files(alloc, &self.shards)?;
+        Ok(self.are_files_readable(&files))
     }
 
     /// The bytes of a file from a start up to an end, which is above it and within the file.
@@ -205,6 +262,25 @@ impl MemoryClient {
         }
     }
 
+    /// The same with the links of version 2, which have the moment in milliseconds.
+    fn plan_in_groups(
+        &self,
+        alloc: Global,
+        file: &MerkleHash,
+        range: Option<FileRange>,
+        at: u64,
+    ) -> Result<Option<QueryReconstructionResponseV2>, ClientError>
+        ensures answer { Answered result (RespondsInGroups self.now file.now range at) ⊤ }
+        ensures refusals { RefusedBy OfPlan result }
+        ensures sound { IsSound self.now }
+    {
+        let Some(plan) = self.plan(alloc, file, range)? else {
+            return Ok(None);
+        };
+        let response = second(alloc, plan, self.max_ranges, at)?;
+        Ok(Some(response))
+    }
+
     /// Chunks of a xorb, which aren't copied. `XORBNotFound` where it isn't stored, `InvalidRange` where the range is
     /// empty, reversed or ends past its last chunk.
     pub fn cut(
@@ -230,6 +306,27 @@ fn other(alloc: Global, text: &str) -> ClientError
     match String::from_str(alloc, text) {
         Ok(text) => ClientError::Other(text),
         Err(_) => ClientError::OutOfMemory,
+    }
+}
+
+/// The answer of a check; `Other` where it fails.
+fn passed(alloc: Global, holds: bool, text: &str) -> Result<(), ClientError>
+    ensures { Answered result (λ r. r ≡ checked holds) ⊤ }
+{
+    if holds {
+        Ok(())
+    } else {
+        Err(other(alloc, text))
+    }
+}
+
+/// A time in milliseconds as whole seconds, rounded up. None where it is 0.
+fn seconds_asked(millis: Option<u64>) -> Option<u64>
+    ensures { result ≡ seconds_asked millis }
+{
+    match millis {
+        None | Some(0) => None,
+        Some(millis) => Some(millis.div_ceil(1000)),
     }
 }
 
@@ -268,6 +365,30 @@ impl Client for MemoryClient {
         Ok(Some((listing, Some(*shard.name()))))
     }
 
+    fn get_reconstruction(
+        &mut self,
+        alloc: Global,
+        file_id: &MerkleHash,
+        bytes_range: Option<FileRange>,
+        at: u64,
+    ) -> Result<Option<QueryReconstructionResponseV2>, ClientError> {
+        self.plan_in_groups(alloc, file_id, bytes_range, at)
+    }
+
+    fn query_for_global_dedup_shard(
+        &mut self,
+        alloc: Global,
+        prefix: &str,
+        chunk_hash: &MerkleHash,
+        at: u64,
+    ) -> Result<Option<Bytes>, ClientError> {
+        let Some(shard) = self.dedup_shard(chunk_hash) else {
+            return Ok(None);
+        };
+        let text = shard.dedup_text(alloc, self.dedup_seconds, at)?;
+        Ok(Some(text))
+    }
+
     fn upload_shard(&mut self, alloc: Global, shard_data: Bytes) -> Result<bool, ClientError> {
         MemoryClient::upload_shard(self, alloc, &shard_data)
     }
@@ -293,6 +414,28 @@ impl DirectAccessClient for MemoryClient {
         Ok(())
     }
 
+    /// Takes no memory.
+    fn set_max_ranges_per_fetch(&mut self, max_ranges: usize) -> Result<(), ClientError>
+        ensures done { 0 < max_ranges → result ≡ Ok tt }
+        ensures refused { max_ranges ≡ 0 → result ≡ Err errors.InvalidArguments }
+        ensures after { self.new ≡ (set_max_ranges self.old max_ranges).1 }
+    {
+        if max_ranges == 0 {
+            return Err(ClientError::InvalidArguments);
+        }
+        self.max_ranges = max_ranges;
+        Ok(())
+    }
+
+    /// Takes no memory.
+    fn set_global_dedup_shard_expiration(&mut self, millis: Option<u64>) -> Result<(), ClientError>
+        ensures done { result ≡ Ok tt }
+        ensures after { self.new ≡ (set_dedup_expiration self.old millis).1 }
+    {
+        self.dedup_seconds = seconds_asked(millis);
+        Ok(())
+    }
+
     fn get_reconstruction_v1(
         &mut self,
         alloc: Global,
@@ -305,6 +448,32 @@ impl DirectAccessClient for MemoryClient {
         };
         let response = first(alloc, plan, at)?;
         Ok(Some(response))
+    }
+
+    fn get_reconstruction_v2(
+        &mut self,
+        alloc: Global,
+        file_id: &MerkleHash,
+        bytes_range: Option<FileRange>,
+        at: u64,
+    ) -> Result<Option<QueryReconstructionResponseV2>, ClientError> {
+        self.plan_in_groups(alloc, file_id, bytes_range, at)
+    }
+
+    fn fetch_term_data(
+        &mut self,
+        alloc: Global,
+        hash: MerkleHash,
+        fetch_term: XorbReconstructionFetchInfo,
+        at: u64,
+    ) -> Result<(Bytes, Vec<u32>), ClientError> {
+        let url = fetch_term.url.as_str();
+        let named = named_xorb(url, fetch_term.url_range, at, self.expiration)?;
+        let Some(xorb) = self.xorbs.get(&named) else {
+            return Err(ClientError::XORBNotFound(named));
+        };
+        let chunks = xorb.cut(alloc, fetch_term.range)?;
+        Ok(join(alloc, chunks.as_slice())?)
     }
 
     fn list_xorbs(&mut self, alloc: Global) -> Result<Vec<MerkleHash>, ClientError> {
@@ -332,6 +501,35 @@ impl DirectAccessClient for MemoryClient {
     fn xorb_raw_length(&mut self, alloc: Global, hash: &MerkleHash) -> Result<u64, ClientError> {
         match self.xorbs.get(hash) {
             Some(xorb) => Ok(u64::from(xorb.object().serialized_length())),
+            None => Err(ClientError::XORBNotFound(*hash)),
+        }
+    }
+
+    fn get_full_xorb(&mut self, alloc: Global, hash: &MerkleHash) -> Result<Bytes, ClientError> {
+        match self.xorbs.get(hash) {
+            Some(xorb) => Ok(xorb.all(alloc)?),
+            None => Err(ClientError::XORBNotFound(*hash)),
+        }
+    }
+
+    fn xorb_length(&mut self, alloc: Global, hash: &MerkleHash) -> Result<u32, ClientError> {
+        match self.xorbs.get(hash) {
+            Some(xorb) => Ok(xorb.length()),
+            None => Err(ClientError::XORBNotFound(*hash)),
+        }
+    }
+
+    fn get_xorb_ranges(
+        &mut self,
+        alloc: Global,
+        hash: &MerkleHash,
+        chunk_ranges: Vec<(u32, u32)>,
+    ) -> Result<Vec<Bytes>, ClientError> {
+        if chunk_ranges.is_empty() {
+            return Ok(Vec::from_array(alloc, [Bytes::new()])?);
+        }
+        match self.xorbs.get(hash) {
+            Some(xorb) => xorb.ranges(alloc, chunk_ranges.as_slice()),
             None => Err(ClientError::XORBNotFound(*hash)),
         }
     }
@@ -383,6 +581,50 @@ impl DirectAccessClient for MemoryClient {
 }
 
 impl DeletionControlableClient for MemoryClient {
+    fn verify_integrity(&mut self, alloc: Global) -> Result<(), ClientError> {
+        let holds = checks::integrity(alloc, &self.xorbs, &self.hidden, &self.shards)?;
+        passed(
+            alloc,
+            holds,
+            "a listed xorb isn't stored, or a segment doesn't fit",
+        )
+    }
+
+    fn verify_all_reachable(&mut self, alloc: Global) -> Result<(), ClientError> {
+        let holds = checks::reachable(alloc, &self.xorbs, &self.hidden, &self.shards)?;
+        passed(alloc, holds, "a shard or a xorb is of no use")
+    }
+
+    fn list_shard_entries(&mut self, alloc: Global) -> Result<Vec<MerkleHash>, ClientError> {
+        let names = self.shards.names(alloc)?;
+        Ok(names)
+    }
+
+    fn get_shard_bytes(&mut self, alloc: Global, hash: &MerkleHash) -> Result<Bytes, ClientError> {
+        match self.shards.get(hash) {
+            Some(shard) => Ok(shard.text(alloc)?),
+            None => Err(other(alloc, "no shard of this name is stored")),
+        }
+    }
+
+    fn list_file_shard_entries(
+        &mut self,
+        alloc: Global,
+    ) -> Result<Vec<(MerkleHash, MerkleHash)>, ClientError> {
+        let entries = lists::shown(alloc, &self.hidden, &self.shards)?;
+        let pairs = entries.pairs(alloc)?;
+        Ok(pairs)
+    }
+
+    fn remove_shard_dedup_entries(
+        &mut self,
+        alloc: Global,
+        shard_hash: &MerkleHash,
+    ) -> Result<(), ClientError> {
+        drop_named(alloc, &mut self.dedup, shard_hash)?;
+        Ok(())
+    }
+
     /// Of a shard that is stored it takes no memory.
     fn delete_shard_entry(&mut self, alloc: Global, hash: &MerkleHash) -> Result<(), ClientError>
         ensures done { IsSome (shard_named self.old.shards hash.now) → result ≡ Ok tt }
@@ -429,8 +671,27 @@ impl Footers for MemoryClient {
 impl Store for MemoryClient {
     ghost use Rattle.std.specs.Prelude.{refl};
 
+    fn verify_readable(&mut self, alloc: Global) -> Result<(), ClientError> {
+        let holds = self.is_readable(alloc)?;
+        passed(alloc, holds, "a segment disagrees with its xorb")
+    }
+
     fn fetch_term_url_expiration(&mut self) -> u64 {
         self.expiration
+    }
+
+    fn insert_random_xorb(
+        &mut self,
+        alloc: Global,
+        xorb: RandomXorb,
+    ) -> Result<MerkleHash, ClientError> {
+        let hash = xorb.xorb_hash();
+        if self.xorbs.contains(&hash) {
+            return Ok(hash);
+        }
+        let stored = StoredXorb::generated(alloc, xorb)?;
+        self.xorbs.insert(hash, stored)?;
+        Ok(hash)
     }
 
     ghost footers = { λ _. refl };

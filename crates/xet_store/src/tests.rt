@@ -43,6 +43,33 @@ const SECOND: &[u8; 32] =
 const WHOLE: &[u8; 32] =
     b"\x71\xe3\xa3\x92\xf3\x81\x43\xcd\xf9\x2a\x26\x4c\x70\x0d\x74\x53\x51\x6e\x03\x2e\x50\x57\x86\xb0\x8e\x3c\x05\x42\xb2\xa5\x8b\x58";
 
+/// The xorb whose only chunk is `abc`.
+const ONE_XORB: &[u8] = b"\0\x03\0\0\0\x03\0\0abc";
+
+/// Its name.
+const ONE_NAME: &[u8; 32] =
+    b"O\x8bB\xc2-\xd3r\x9bQ\x9b\xa6\xf6\x8d-\xa7\xcc[-`m\x05\xda\xedZ\xd5\x12\x8c\xc0>lcX";
+
+/// The hash of its chunk.
+const ONE_CHUNK: &[u8; 32] =
+    b"\xbax\x16\xbf\x8f\x01\xcf\xeaAA@\xde]\xae\"#\xb0\x03a\xa3\x96\x17z\x9c\xb4\x10\xffa\xf2\0\x15\xad";
+
+/// A shard that expires at 7 and lists a file as that xorb, and the xorb twice.
+const ONE_SHARD: &[u8] =
+    b"XETSHRD1\x07\0\0\0\0\0\0\0\x01\0\0\0\x88\x88\x88\x88\x88\x88\x88\x88\x88\x88\x88\x88\x88\x88\x88\x88\x88\x88\x88\x88\x88\x88\x88\x88\x88\x88\x88\x88\x88\x88\x88\x88\x01\0\0\0O\x8bB\xc2-\xd3r\x9bQ\x9b\xa6\xf6\x8d-\xa7\xcc[-`m\x05\xda\xedZ\xd5\x12\x8c\xc0>lcX\0\0\0\0\0\0\0\0\x01\0\0\0\x03\0\0\0\x02\0\0\0O\x8bB\xc2-\xd3r\x9bQ\x9b\xa6\xf6\x8d-\xa7\xcc[-`m\x05\xda\xedZ\xd5\x12\x8c\xc0>lcX\x03\0\0\0\x01\0\0\0\xbax\x16\xbf\x8f\x01\xcf\xeaAA@\xde]\xae\"#\xb0\x03a\xa3\x96\x17z\x9c\xb4\x10\xffa\xf2\0\x15\xad\0\0\0\0\x03\0\0\0\x05\0\0\0\x06\0\0\0O\x8bB\xc2-\xd3r\x9bQ\x9b\xa6\xf6\x8d-\xa7\xcc[-`m\x05\xda\xedZ\xd5\x12\x8c\xc0>lcX\x03\0\0\0\x01\0\0\0\xbax\x16\xbf\x8f\x01\xcf\xeaAA@\xde]\xae\"#\xb0\x03a\xa3\x96\x17z\x9c\xb4\x10\xffa\xf2\0\x15\xad\0\0\0\0\x03\0\0\0\x05\0\0\0\x06\0\0\0";
+
+/// The name of its canonical form.
+const ONE_SHARD_NAME: &[u8; 32] =
+    b"{\xca\xd4=\xd3\x8eh\xf5\xffc,\xc8\x82\x9b\xf0\x01\x0d\xab\xef\xfc\xc2\x90\x80\xe5\xecO\x0e\xde\x12\xa3\"^";
+
+/// Its canonical form.
+const ONE_CANONICAL: &[u8] =
+    b"XETSHRD1\0\0\0\0\0\0\0\0\x01\0\0\0\x88\x88\x88\x88\x88\x88\x88\x88\x88\x88\x88\x88\x88\x88\x88\x88\x88\x88\x88\x88\x88\x88\x88\x88\x88\x88\x88\x88\x88\x88\x88\x88\x01\0\0\0O\x8bB\xc2-\xd3r\x9bQ\x9b\xa6\xf6\x8d-\xa7\xcc[-`m\x05\xda\xedZ\xd5\x12\x8c\xc0>lcX\0\0\0\0\0\0\0\0\x01\0\0\0\x03\0\0\0\x01\0\0\0O\x8bB\xc2-\xd3r\x9bQ\x9b\xa6\xf6\x8d-\xa7\xcc[-`m\x05\xda\xedZ\xd5\x12\x8c\xc0>lcX\x03\0\0\0\x01\0\0\0\xbax\x16\xbf\x8f\x01\xcf\xeaAA@\xde]\xae\"#\xb0\x03a\xa3\x96\x17z\x9c\xb4\x10\xffa\xf2\0\x15\xad\0\0\0\0\x03\0\0\0\x05\0\0\0\x06\0\0\0";
+
+/// The canonical form's xorbs without its files, which expire at 12.
+const ONE_EXPIRING: &[u8] =
+    b"XETSHRD1\x0c\0\0\0\0\0\0\0\0\0\0\0\x01\0\0\0O\x8bB\xc2-\xd3r\x9bQ\x9b\xa6\xf6\x8d-\xa7\xcc[-`m\x05\xda\xedZ\xd5\x12\x8c\xc0>lcX\x03\0\0\0\x01\0\0\0\xbax\x16\xbf\x8f\x01\xcf\xeaAA@\xde]\xae\"#\xb0\x03a\xa3\x96\x17z\x9c\xb4\x10\xffa\xf2\0\x15\xad\0\0\0\0\x03\0\0\0\x05\0\0\0\x06\0\0\0";
+
 const FILE: &[u8; 32] = &[0xaa; 32];
 
 const EMPTY: &[u8; 32] = &[0xbb; 32];
@@ -68,6 +95,10 @@ enum Call {
     WholeShard,
     /// An upload of bytes that aren't a shard's.
     TornShard,
+    /// An upload of a shard's bytes.
+    ShardBytes(&'static [u8]),
+    /// A query for a chunk at a moment.
+    Dedup(&'static [u8; 32], u64),
     Info(&'static [u8; 32]),
     Size(&'static [u8; 32]),
     Data(&'static [u8; 32], Option<(u64, u64)>),
@@ -77,10 +108,21 @@ enum Call {
     Chunks(&'static [u8; 32]),
     RawLength(&'static [u8; 32]),
     RawBytes(&'static [u8; 32], Option<(u64, u64)>),
+    Length(&'static [u8; 32]),
+    Full(&'static [u8; 32]),
+    Ranges(&'static [u8; 32], &'static [(u32, u32)]),
+    Shards,
+    Files,
+    ShardText(&'static [u8; 32]),
+    DropDedup(&'static [u8; 32]),
+    Integrity,
+    Reachable,
+    Readable,
     DeleteXorb(&'static [u8; 32]),
     DeleteShard(&'static [u8; 32]),
     Hide(&'static [u8; 32]),
     SetExpiration(u64),
+    SetDedupExpiration(Option<u64>),
     Expiration,
 }
 
@@ -91,6 +133,7 @@ enum Got {
     Nothing,
     Number(u64),
     Text(Bytes),
+    Texts(Vec<Bytes>),
 }
 
 /// What a call is to answer.
@@ -100,6 +143,7 @@ enum Want {
     Nothing,
     Number(u64),
     Text(&'static [u8]),
+    Texts(&'static [&'static [u8]]),
     NoFile,
     NoXorb,
     BadXorb,
@@ -305,6 +349,91 @@ fn raw_bytes<K: Store>(
     Ok(Got::Text(bytes))
 }
 
+/// The answer to a query for a chunk.
+fn dedup<K: Store>(
+    store: &mut K,
+    alloc: Global,
+    chunk: &[u8; 32],
+    at: u64,
+) -> Result<Got, ClientError> {
+    let chunk = MerkleHash::from_bytes(*chunk);
+    match store.query_for_global_dedup_shard(alloc, "default", &chunk, at)? {
+        Some(text) => Ok(Got::Text(text)),
+        None => Ok(Got::Nothing),
+    }
+}
+
+fn length<K: Store>(store: &mut K, alloc: Global, hash: &[u8; 32]) -> Result<Got, ClientError> {
+    let length = store.xorb_length(alloc, &MerkleHash::from_bytes(*hash))?;
+    Ok(Got::Number(u64::from(length)))
+}
+
+fn full<K: Store>(store: &mut K, alloc: Global, hash: &[u8; 32]) -> Result<Got, ClientError> {
+    let bytes = store.get_full_xorb(alloc, &MerkleHash::from_bytes(*hash))?;
+    Ok(Got::Text(bytes))
+}
+
+fn ranges<K: Store>(
+    store: &mut K,
+    alloc: Global,
+    hash: &[u8; 32],
+    ranges: &[(u32, u32)],
+) -> Result<Got, ClientError> {
+    let ranges = Vec::from_slice(alloc, ranges)?;
+    let texts = store.get_xorb_ranges(alloc, &MerkleHash::from_bytes(*hash), ranges)?;
+    Ok(Got::Texts(texts))
+}
+
+/// Hashes as texts.
+fn texts_of(alloc: Global, hashes: &[MerkleHash]) -> Result<Got, ClientError> {
+    let mut texts = Vec::new(alloc);
+    for hash in hashes {
+        texts.push(Bytes::copy_from_slice(alloc, hash.as_slice())?)?;
+    }
+    Ok(Got::Texts(texts))
+}
+
+fn shards<K: Store>(store: &mut K, alloc: Global) -> Result<Got, ClientError> {
+    let names = store.list_shard_entries(alloc)?;
+    texts_of(alloc, &names)
+}
+
+/// The files and the shards that list them, one behind the other.
+fn files<K: Store>(store: &mut K, alloc: Global) -> Result<Got, ClientError> {
+    let entries = store.list_file_shard_entries(alloc)?;
+    let mut hashes = Vec::new(alloc);
+    for (file, shard) in entries {
+        hashes.push(file)?;
+        hashes.push(shard)?;
+    }
+    texts_of(alloc, &hashes)
+}
+
+fn shard_text<K: Store>(store: &mut K, alloc: Global, name: &[u8; 32]) -> Result<Got, ClientError> {
+    let text = store.get_shard_bytes(alloc, &MerkleHash::from_bytes(*name))?;
+    Ok(Got::Text(text))
+}
+
+fn drop_dedup<K: Store>(store: &mut K, alloc: Global, name: &[u8; 32]) -> Result<Got, ClientError> {
+    store.remove_shard_dedup_entries(alloc, &MerkleHash::from_bytes(*name))?;
+    Ok(Got::Done)
+}
+
+fn integrity<K: Store>(store: &mut K, alloc: Global) -> Result<Got, ClientError> {
+    store.verify_integrity(alloc)?;
+    Ok(Got::Done)
+}
+
+fn reachable<K: Store>(store: &mut K, alloc: Global) -> Result<Got, ClientError> {
+    store.verify_all_reachable(alloc)?;
+    Ok(Got::Done)
+}
+
+fn readable<K: Store>(store: &mut K, alloc: Global) -> Result<Got, ClientError> {
+    store.verify_readable(alloc)?;
+    Ok(Got::Done)
+}
+
 fn delete_xorb<K: Store>(
     store: &mut K,
     alloc: Global,
@@ -333,6 +462,11 @@ fn set_expiration<K: Store>(store: &mut K, millis: u64) -> Result<Got, ClientErr
     Ok(Got::Done)
 }
 
+fn set_dedup_expiration<K: Store>(store: &mut K, millis: Option<u64>) -> Result<Got, ClientError> {
+    store.set_global_dedup_shard_expiration(millis)?;
+    Ok(Got::Done)
+}
+
 /// What a store answers to a call.
 fn answer<K: Store>(store: &mut K, alloc: Global, call: &Call) -> Result<Got, ClientError> {
     match call {
@@ -343,6 +477,8 @@ fn answer<K: Store>(store: &mut K, alloc: Global, call: &Call) -> Result<Got, Cl
         Call::EmptyFile(file) => list(store, alloc, file, None),
         Call::WholeShard => upload_shard(store, alloc, whole_shard(alloc)?),
         Call::TornShard => upload_shard(store, alloc, Bytes::from_static(TORN)),
+        Call::ShardBytes(content) => upload_shard(store, alloc, Bytes::from_static(content)),
+        Call::Dedup(chunk, at) => dedup(store, alloc, chunk, *at),
         Call::Info(file) => info(store, alloc, file),
         Call::Size(file) => size(store, alloc, file),
         Call::Data(file, range) => data(store, alloc, file, range_of(*range)),
@@ -352,12 +488,32 @@ fn answer<K: Store>(store: &mut K, alloc: Global, call: &Call) -> Result<Got, Cl
         Call::Chunks(hash) => chunks(store, alloc, hash),
         Call::RawLength(hash) => raw_length(store, alloc, hash),
         Call::RawBytes(hash, range) => raw_bytes(store, alloc, hash, range_of(*range)),
+        Call::Length(hash) => length(store, alloc, hash),
+        Call::Full(hash) => full(store, alloc, hash),
+        Call::Ranges(hash, chunks) => ranges(store, alloc, hash, chunks),
+        Call::Shards => shards(store, alloc),
+        Call::Files => files(store, alloc),
+        Call::ShardText(name) => shard_text(store, alloc, name),
+        Call::DropDedup(name) => drop_dedup(store, alloc, name),
+        Call::Integrity => integrity(store, alloc),
+        Call::Reachable => reachable(store, alloc),
+        Call::Readable => readable(store, alloc),
         Call::DeleteXorb(hash) => delete_xorb(store, alloc, hash),
         Call::DeleteShard(name) => delete_shard(store, alloc, name),
         Call::Hide(file) => hide(store, alloc, file),
         Call::SetExpiration(millis) => set_expiration(store, *millis),
+        Call::SetDedupExpiration(millis) => set_dedup_expiration(store, *millis),
         Call::Expiration => Ok(Got::Number(store.fetch_term_url_expiration())),
     }
+}
+
+/// Whether these are the wanted texts.
+fn are_texts(got: &[Bytes], want: &[&[u8]]) -> bool {
+    let mut same = got.len() == want.len();
+    for (got, want) in got.iter().zip(want) {
+        same = same && got.as_slice() == *want;
+    }
+    same
 }
 
 fn is_wanted(got: &Got, want: &Want) -> bool {
@@ -366,6 +522,7 @@ fn is_wanted(got: &Got, want: &Want) -> bool {
         (Got::Nothing, Want::Nothing) => true,
         (Got::Number(got), Want::Number(want)) => got == want,
         (Got::Text(got), Want::Text(want)) => got.as_slice() == *want,
+        (Got::Texts(got), Want::Texts(want)) => are_texts(got.as_slice(), want),
         _ => false,
     }
 }
@@ -425,6 +582,7 @@ const ROWS: &[(Call, Want)] = &[
     (Call::Xorb(NAME, FOOTED), Want::Number(152)),
     (Call::RawBytes(NAME, None), Want::Text(FOOTED)),
     (Call::TornShard, Want::BadShard),
+    (Call::Dedup(ONE_CHUNK, 10_000), Want::Nothing),
     (Call::Size(FILE), Want::NoFile),
     (Call::Data(FILE, None), Want::NoFile),
     (Call::Plan(FILE, None), Want::Nothing),
@@ -477,11 +635,106 @@ const ROWS: &[(Call, Want)] = &[
     (Call::Exists(NAME), Want::Number(0)),
     (Call::Data(FILE, None), Want::NoXorb),
     (Call::Plan(FILE, None), Want::NoXorb),
+    (Call::Length(ONE_NAME), Want::NoXorb),
+    (Call::Full(ONE_NAME), Want::NoXorb),
+    (Call::Ranges(ONE_NAME, &[]), Want::Texts(&[b""])),
+    (Call::Ranges(ONE_NAME, &[(1, 0)]), Want::NoXorb),
+    (Call::Xorb(ONE_NAME, ONE_XORB), Want::Number(99)),
+    (Call::Length(ONE_NAME), Want::Number(3)),
+    (Call::Full(ONE_NAME), Want::Text(b"abc")),
+    (Call::Ranges(ONE_NAME, &[]), Want::Texts(&[b""])),
+    (Call::Ranges(ONE_NAME, &[(0, 1)]), Want::Texts(&[b"abc"])),
+    (Call::Ranges(ONE_NAME, &[(1, 0)]), Want::Texts(&[b""])),
+    (Call::Ranges(ONE_NAME, &[(0, 2)]), Want::BadRange),
+    (Call::Ranges(ONE_NAME, &[(0, 1), (1, 2)]), Want::BadRange),
+    (
+        Call::Ranges(ONE_NAME, &[(9, 9), (0, 1), (9, 0), (0, 1)]),
+        Want::Texts(&[b"", b"abc", b"", b"abc"]),
+    ),
+    (Call::Xorb(NAME, XORB), Want::Number(152)),
+    (Call::Length(NAME), Want::Number(8)),
+    (Call::Full(NAME), Want::Text(b"abcdefgh")),
+    (
+        Call::Ranges(NAME, &[(0, 2), (1, 2)]),
+        Want::Texts(&[b"abcdefgh", b"defgh"]),
+    ),
+    (Call::ShardBytes(ONE_SHARD), Want::Number(1)),
+    (Call::Dedup(ONE_CHUNK, 10_000), Want::Text(ONE_CANONICAL)),
+    (Call::Dedup(OTHER, 10_000), Want::Nothing),
+    (Call::SetDedupExpiration(Some(1500)), Want::Done),
+    (Call::Dedup(ONE_CHUNK, 10_000), Want::Text(ONE_EXPIRING)),
+    (Call::Dedup(ONE_CHUNK, 10_999), Want::Text(ONE_EXPIRING)),
+    (Call::SetDedupExpiration(Some(1)), Want::Done),
+    (Call::Dedup(ONE_CHUNK, 11_000), Want::Text(ONE_EXPIRING)),
+    (Call::SetDedupExpiration(Some(2000)), Want::Done),
+    (Call::Dedup(ONE_CHUNK, 10_000), Want::Text(ONE_EXPIRING)),
+    (Call::SetDedupExpiration(Some(0)), Want::Done),
+    (Call::Dedup(ONE_CHUNK, 10_000), Want::Text(ONE_CANONICAL)),
+    (Call::SetDedupExpiration(Some(5)), Want::Done),
+    (Call::SetDedupExpiration(None), Want::Done),
+    (Call::Dedup(ONE_CHUNK, 10_000), Want::Text(ONE_CANONICAL)),
+    (Call::DeleteShard(ONE_SHARD_NAME), Want::Done),
+    (Call::Dedup(ONE_CHUNK, 10_000), Want::Nothing),
+    (Call::ShardBytes(ONE_SHARD), Want::Number(1)),
+    (Call::Dedup(ONE_CHUNK, 10_000), Want::Text(ONE_CANONICAL)),
+];
+
+/// Calls of the lists and the checks, in order, and what each is to answer.
+const LISTED: &[(Call, Want)] = &[
+    (Call::Shards, Want::Texts(&[])),
+    (Call::Files, Want::Texts(&[])),
+    (Call::Integrity, Want::Done),
+    (Call::Reachable, Want::Done),
+    (Call::Readable, Want::Done),
+    (Call::Xorb(NAME, XORB), Want::Number(152)),
+    (Call::Reachable, Want::Other),
+    (Call::Shard(FILE, 0, 1, 3), Want::Number(1)),
+    (Call::Shards, Want::Texts(&[FIRST])),
+    (Call::Files, Want::Texts(&[FILE, FIRST])),
+    (Call::Integrity, Want::Done),
+    (Call::Reachable, Want::Done),
+    (Call::Readable, Want::Done),
+    (Call::Shard(TORN_FILE, 0, 1, 4), Want::Number(1)),
+    (Call::Integrity, Want::Done),
+    (Call::Reachable, Want::Done),
+    (Call::Readable, Want::Other),
+    (Call::Hide(TORN_FILE), Want::Done),
+    (Call::Readable, Want::Done),
+    (Call::Reachable, Want::Other),
+    (Call::Shard(TORN_FILE, 0, 3, 8), Want::Number(1)),
+    (Call::Integrity, Want::Done),
+    (Call::Readable, Want::Other),
+    (Call::Shard(TORN_FILE, 0, 2, 0), Want::Number(1)),
+    (Call::Readable, Want::Done),
+    (Call::Shard(FILE, 1, 2, 5), Want::Number(1)),
+    (Call::DeleteXorb(NAME), Want::Done),
+    (Call::Integrity, Want::Other),
+    (Call::Reachable, Want::Done),
+    (Call::Readable, Want::Other),
+    (Call::Xorb(NAME, XORB), Want::Number(152)),
+    (Call::Integrity, Want::Done),
+    (Call::ShardBytes(ONE_SHARD), Want::Number(1)),
+    (Call::Integrity, Want::Other),
+    (Call::Xorb(ONE_NAME, ONE_XORB), Want::Number(99)),
+    (Call::Integrity, Want::Done),
+    (Call::Reachable, Want::Done),
+    (Call::ShardText(ONE_SHARD_NAME), Want::Text(ONE_CANONICAL)),
+    (Call::ShardText(OTHER), Want::Other),
+    (Call::Dedup(ONE_CHUNK, 0), Want::Text(ONE_CANONICAL)),
+    (Call::DropDedup(OTHER), Want::Done),
+    (Call::Dedup(ONE_CHUNK, 0), Want::Text(ONE_CANONICAL)),
+    (Call::DropDedup(ONE_SHARD_NAME), Want::Done),
+    (Call::Dedup(ONE_CHUNK, 0), Want::Nothing),
+    (Call::DropDedup(ONE_SHARD_NAME), Want::Done),
+    (Call::ShardText(ONE_SHARD_NAME), Want::Text(ONE_CANONICAL)),
+    (Call::DeleteShard(ONE_SHARD_NAME), Want::Done),
+    (Call::ShardText(ONE_SHARD_NAME), Want::Other),
+    (Call::Reachable, Want::Other),
 ];
 
 /// Calls a store for each row, in order.
-fn every_call<K: Store>(rt: &impl Abort, alloc: Global, store: &mut K) {
-    for (call, want) in ROWS {
+fn every_call<K: Store>(rt: &impl Abort, alloc: Global, store: &mut K, rows: &[(Call, Want)]) {
+    for (call, want) in rows {
         assert!(rt; is_right(store, alloc, call, want));
     }
 }
@@ -490,6 +743,14 @@ fn every_call<K: Store>(rt: &impl Abort, alloc: Global, store: &mut K) {
 fn in_memory(rt: HostRuntime) -> Result<(), Fail> {
     let alloc = rt.alloc();
     let mut store = MemoryClient::new(alloc);
-    every_call(&rt, alloc, &mut store);
+    every_call(&rt, alloc, &mut store, ROWS);
+    Ok(())
+}
+
+#[test]
+fn lists_and_checks_in_memory(rt: HostRuntime) -> Result<(), Fail> {
+    let alloc = rt.alloc();
+    let mut store = MemoryClient::new(alloc);
+    every_call(&rt, alloc, &mut store, LISTED);
     Ok(())
 }

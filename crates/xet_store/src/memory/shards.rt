@@ -1,19 +1,23 @@
 //! The accepted shards.
 ghost use Rattle.std.specs.Prelude.{◌≡◌, None, true, IfOk, OnOk, OnErr};
 ghost use Rattle.std.specs.Option.{option_copied, is_some};
-ghost use Rattle.std.specs.FinMap.{get, insert, remove};
+ghost use Rattle.std.specs.FinMap.{get, insert, remove, keys};
 ghost use Rattle.std.specs.List.Sorted.{IsStrictlySortedBy};
 ghost use Rattle.std.specs.Prelude.{map, ℕ, List};
 ghost use Rattle.xet_types.specs.Names.{hash_cmp};
-ghost use Rattle.xet_shard.specs.Canonical.{shard_name, canonical_of, file_hash_of};
+ghost use Rattle.xet_shard.specs.Canonical.{shard_name, canonical_of, canonical_text, file_hash_of};
 ghost use Rattle.xet_store.specs.StoreModel.{last_shard, listed_in, shard_named, with_shard, without_shard};
 ghost use Rattle.xet_store.specs.Kept.{IsListed};
+ghost use Rattle.xet_store.specs.Lists.{set_of};
+ghost use Rattle.xet_store.specs.Questions.{dedup_text};
 ghost use Rattle.xet_store.specs.Indexed.{with_pairs, without_pairs, unlisted, AddsSome, IsFresh};
 
+use bytes::Bytes;
 use std::alloc::Global;
+use std::collections::btree_map::Values;
 use std::marker::Model;
 use xet_bytes::{ByHash, ByHashAndNumber, ByNumber};
-use xet_shard::{FileListing, Shard, canonical, write_shard};
+use xet_shard::{FileListing, Shard, canonical, write_shard, xorb_subset_with_expiry};
 use xet_types::{MerkleHash, OutOfMemory, compute_data_hash};
 
 /// A shard in canonical form, and its name.
@@ -68,6 +72,31 @@ impl KeptShard {
         ensures rises { IsStrictlySortedBy hash_cmp (map file_hash_of self.now.files) }
     {
         self.shard.files()
+    }
+
+    /// Its canonical text.
+    pub fn text(&self, alloc: Global) -> Result<Bytes, OutOfMemory>
+        ensures { IfOk result (λ text. text ≡ canonical_text self.now) }
+    {
+        write_shard(alloc, &self.shard)
+    }
+
+    /// Its text as it is answered at a moment in milliseconds: where answers expire after so many seconds, without its files.
+    pub fn dedup_text(
+        &self,
+        alloc: Global,
+        seconds: Option<u64>,
+        at: u64,
+    ) -> Result<Bytes, OutOfMemory>
+        ensures { IfOk result (λ text. text ≡ dedup_text seconds at self.now) }
+    {
+        match seconds {
+            Some(seconds) => {
+                let expiry = (at / 1000).saturating_add(seconds);
+                xorb_subset_with_expiry(alloc, &self.shard, expiry)
+            }
+            None => self.text(alloc),
+        }
     }
 
     /// The listing of the file, where there is one.
@@ -229,6 +258,21 @@ impl ShardTable {
             }
             None => false,
         }
+    }
+
+    /// The shards in order of acceptance. Takes no memory.
+    pub fn iter(&self) -> Values<'_, u64, KeptShard>
+        ensures { result ≡ self.now }
+    {
+        self.kept.values()
+    }
+
+    /// The names in order.
+    pub fn names(&self, alloc: Global) -> Result<Vec<MerkleHash>, OutOfMemory>
+        ensures { IfOk result (λ names. names.items ≡ keys (set_of (map shard_name self.now))) }
+    {
+        let names = self.by_name.keys(alloc)?;
+        Ok(names)
     }
 
     /// The shard of a name.

@@ -1,18 +1,19 @@
 //! A stored xorb.
-ghost use Rattle.std.specs.Prelude.{◌≡◌, ◌<◌, ◌≤◌, ◌++◌, [], length, slice_index_or, slice_range, IfOk, OnOk, ⊤};
+ghost use Rattle.std.specs.Prelude.{◌≡◌, ◌<◌, ◌≤◌, ◌^◌, ◌++◌, [], length, sum, slice_index_or, slice_range, IfOk, OnOk, ⊤};
 ghost use Rattle.std.specs.List.{concat};
 ghost use Rattle.std.specs.Arc.{arc_value};
-ghost use Rattle.xet_xorb.specs.ChunkLists.{IsWellFormed, object_of};
+ghost use Rattle.xet_xorb.specs.ChunkLists.{IsWellFormed, lengths_of, object_of, joined};
 ghost use Rattle.xet_xorb.specs.XorbBytes.{xorb_bytes, IsReadOf};
 ghost use Rattle.xet_store.specs.Answered.{Answered};
 ghost use Rattle.xet_store.specs.Cuts.{cut_of_chunks};
+ghost use Rattle.xet_store.specs.Questions.{HasItems, is_past, bytes_of_ranges};
 
 use bytes::Bytes;
 use std::alloc::Global;
 use std::marker::Model;
 use std::sync::Arc;
 use xet_types::{ChunkRange, ClientError, Items, OutOfMemory};
-use xet_xorb::{ReadXorb, XorbObject, footed_text};
+use xet_xorb::{RandomXorb, ReadXorb, XorbObject, footed_text};
 
 /// The length in bytes of a chunk's header.
 const HEADER_LENGTH: usize = 8;
@@ -47,6 +48,15 @@ impl StoredXorb {
         Ok(StoredXorb { text, object })
     }
 
+    /// A generated xorb, whose bytes are kept.
+    pub fn generated(alloc: Global, xorb: RandomXorb) -> Result<StoredXorb, OutOfMemory>
+        ensures { IfOk result (λ stored. stored ≡ xorb) }
+    {
+        let text = xorb.get_full_serialized(alloc)?;
+        let object = Arc::new(alloc, xorb.into_object())?;
+        Ok(StoredXorb { text, object })
+    }
+
     /// What is known of it without its chunks.
     pub fn object(&self) -> &Arc<XorbObject>
         ensures object { arc_value result.now ≡ object_of self.now }
@@ -76,7 +86,8 @@ impl StoredXorb {
 
     /// The chunks of a range, which aren't copied. `InvalidRange` where it is empty, reversed or ends past the last one.
     pub fn cut(&self, alloc: Global, chunks: ChunkRange) -> Result<Items<Bytes>, ClientError>
-        ensures { Answered result (λ r. r ≡ cut_of_chunks self.now chunks.start chunks.end) ⊤ }
+        ensures value { Answered result (λ r. r ≡ cut_of_chunks self.now chunks.start chunks.end) ⊤ }
+        ensures short { IfOk result (λ cut. sum (lengths_of cut) < 2 ^ 32) }
     {
         if chunks.start >= chunks.end || chunks.end > self.object.num_chunks() {
             return Err(ClientError::InvalidRange);
@@ -99,5 +110,58 @@ impl StoredXorb {
             out.extend_from_slice(&self.text.as_slice()[start..end])?;
         }
         Ok(())
+    }
+    /// How many bytes the chunks have together.
+    pub fn length(&self) -> u32
+        ensures { result ≡ sum (lengths_of self.now) }
+    {
+        self.object.unpacked_before(self.object.num_chunks())
+    }
+
+    /// How many bytes the chunks of a range have together, where they are there.
+    fn room(&self, chunks: ChunkRange) -> usize {
+        if chunks.start >= chunks.end || chunks.end > self.object.num_chunks() {
+            return 0;
+        }
+        let start = self.object.unpacked_before(chunks.start);
+        let end = self.object.unpacked_before(chunks.end);
+        end.saturating_sub(start) as usize
+    }
+
+    /// The chunks of a range that are there, joined.
+    fn range(&self, alloc: Global, chunks: ChunkRange) -> Result<Bytes, OutOfMemory>
+        ensures { IfOk result (λ bytes. bytes ≡ joined (slice_range self.now chunks.start chunks.end)) }
+    {
+        let mut bytes = Vec::with_capacity(alloc, self.room(chunks))?;
+        self.append(&mut bytes, chunks)?;
+        Ok(Bytes::from_vec(bytes)?)
+    }
+
+    /// All chunks, joined.
+    pub fn all(&self, alloc: Global) -> Result<Bytes, OutOfMemory>
+        ensures { IfOk result (λ bytes. bytes ≡ joined self.now) }
+    {
+        self.range(alloc, ChunkRange::new(0, self.object.num_chunks()))
+    }
+
+    /// Whether a range that isn't empty or reversed ends past the last chunk.
+    fn is_past(&self, start: u32, end: u32) -> bool
+        ensures { result ≡ is_past (length self.now) (start, end) }
+    {
+        start < end && self.object.num_chunks() < end
+    }
+
+    /// The joined chunks of each range. `InvalidRange` where a range that isn't empty or reversed ends past the last chunk.
+    pub fn ranges(&self, alloc: Global, ranges: &[(u32, u32)]) -> Result<Vec<Bytes>, ClientError>
+        ensures { Answered result (HasItems (bytes_of_ranges ranges.now self.now)) ⊤ }
+    {
+        let mut texts = Vec::with_capacity(alloc, ranges.len())?;
+        for range in ranges {
+            if self.is_past(range.0, range.1) {
+                return Err(ClientError::InvalidRange);
+            }
+            texts.push(self.range(alloc, ChunkRange::new(range.0, range.1))?)?;
+        }
+        Ok(texts)
     }
 }

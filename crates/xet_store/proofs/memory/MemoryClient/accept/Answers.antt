@@ -17,22 +17,22 @@ use Rattle.xet_store.proofs.memory.MemoryClient.accept.Goals as goal
 pub invariant_of-self-in-Some : goal.invariant_of-self-in-Some
 invariant_of-self-in-Some c =
     let i = c.self.inside in
-    let m : StoreModel = record { xorbs = i.xorbs; shards = i.shards; hidden = i.hidden; dedup = filled i.dedup; expiration = i.expiration } in
-    let n : StoreModel = record { xorbs = i.xorbs; shards = c.accept.new.self; hidden = c.show.new.hidden; dedup = filled c.fill.new.entries; expiration = i.expiration } in
-    same_sound (accepted m c.args.shard) n refl c.in_ok-accept.ensures.ok (accepted_sound m c.args.shard c.self.invariant)
+    let m : StoreModel = record { xorbs = i.xorbs; shards = i.shards; hidden = i.hidden; dedup = filled i.dedup; expiration = i.expiration; max_ranges = i.max_ranges; dedup_seconds = i.dedup_seconds } in
+    let n : StoreModel = record { xorbs = i.xorbs; shards = c.accept.new.self; hidden = c.show.new.hidden; dedup = filled c.fill.new.entries; expiration = i.expiration; max_ranges = i.max_ranges; dedup_seconds = i.dedup_seconds } in
+    same_sound (accepted m c.args.shard) n refl c.in_ok-accept.ensures.ok refl (accepted_sound m c.args.shard c.self.invariant)
 
 pub invariant_of-self-in_default : goal.invariant_of-self-in_default
 invariant_of-self-in_default c =
     let i = c.self.inside in
-    let m : StoreModel = record { xorbs = i.xorbs; shards = i.shards; hidden = i.hidden; dedup = filled i.dedup; expiration = i.expiration } in
-    let n : StoreModel = record { xorbs = i.xorbs; shards = c.accept.new.self; hidden = i.hidden; dedup = filled c.fill.new.entries; expiration = i.expiration } in
-    same_sound (accepted m c.args.shard) n refl c.in_ok-accept.ensures.ok (accepted_sound m c.args.shard c.self.invariant)
+    let m : StoreModel = record { xorbs = i.xorbs; shards = i.shards; hidden = i.hidden; dedup = filled i.dedup; expiration = i.expiration; max_ranges = i.max_ranges; dedup_seconds = i.dedup_seconds } in
+    let n : StoreModel = record { xorbs = i.xorbs; shards = c.accept.new.self; hidden = i.hidden; dedup = filled c.fill.new.entries; expiration = i.expiration; max_ranges = i.max_ranges; dedup_seconds = i.dedup_seconds } in
+    same_sound (accepted m c.args.shard) n refl c.in_ok-accept.ensures.ok refl (accepted_sound m c.args.shard c.self.invariant)
 
 pub returns-clause-ok : goal.returns-clause-ok
 returns-clause-ok c =
     let i = c.self.inside in
     let s = c.args.shard in
-    let made : List ShardModel → Hashes → FinMap hash_cmp (List ℕ) → StoreModel = λ ss hs es. record { xorbs = i.xorbs; shards = ss; hidden = hs; dedup = es; expiration = i.expiration } in
+    let made : List ShardModel → Hashes → FinMap hash_cmp (List ℕ) → StoreModel = λ ss hs es. record { xorbs = i.xorbs; shards = ss; hidden = hs; dedup = es; expiration = i.expiration; max_ranges = i.max_ranges; dedup_seconds = i.dedup_seconds } in
     let shards : c.accept.new.self ≡ with_shard i.shards s = c.in_ok-accept.ensures.ok in
     let chunks : c.deref-2.result.now ≡ eligible_of s =
     c.deref-2.ensures.value ∙ c.in_ok-chunks.ensures ∙ ap (λ (xs : List ListedXorb). distinct (flat_map eligible_in xs)) (c.xorbs.ensures.value ∙ ap (λ (u : ShardModel). u.xorbs) c.shard-2.ensures) in

@@ -15,8 +15,8 @@ pub invariant_of-self-2 : goal.invariant_of-self-2
 invariant_of-self-2 c =
     let i = c.self.inside in
     let chunks = c.in_ok-read.read.chunks.items in
-    let m : StoreModel = record { xorbs = i.xorbs; shards = i.shards; hidden = i.hidden; dedup = filled i.dedup; expiration = i.expiration } in
-    let n : StoreModel = record { xorbs = c.insert.new.self; shards = i.shards; hidden = i.hidden; dedup = filled i.dedup; expiration = i.expiration } in
+    let m : StoreModel = record { xorbs = i.xorbs; shards = i.shards; hidden = i.hidden; dedup = filled i.dedup; expiration = i.expiration; max_ranges = i.max_ranges; dedup_seconds = i.dedup_seconds } in
+    let n : StoreModel = record { xorbs = c.insert.new.self; shards = i.shards; hidden = i.hidden; dedup = filled i.dedup; expiration = i.expiration; max_ranges = i.max_ranges; dedup_seconds = i.dedup_seconds } in
     let named : xorb_name chunks ≡ c.args.hash.now = sym (c.xorb_hash.ensures ∙ ap (λ o. name_of_hashes o.hashes) c.in_ok-read.ensures.object) ∙ (bytes_decides c.xorb_hash.result c.args.hash.now).0 (not_not (same_hash c.xorb_hash.result c.args.hash.now) (sym c.ne.ensures ∙ c.if-ne.false)) in
     let put : n.xorbs ≡ insert m.xorbs c.args.hash.now chunks = c.in_ok-insert.ensures.ok ∙ ap (insert m.xorbs c.args.hash.now) c.in_ok-xorb.ensures in
-    same_sound (with_xorb m c.args.hash.now chunks) n put refl (with_xorb_sound m c.args.hash.now chunks c.self.invariant c.in_ok-read.ensures.chunks.formed named)
+    same_sound (with_xorb m c.args.hash.now chunks) n put refl refl (with_xorb_sound m c.args.hash.now chunks c.self.invariant c.in_ok-read.ensures.chunks.formed named)

@@ -8,6 +8,6 @@ use Rattle.xet_store.proofs.memory.MemoryClientDirectAccessClient.delete_xorb.Go
 pub invariant_of-self : goal.invariant_of-self
 invariant_of-self c =
     let i = c.self.inside in
-    let m : StoreModel = record { xorbs = i.xorbs; shards = i.shards; hidden = i.hidden; dedup = filled i.dedup; expiration = i.expiration } in
-    let n : StoreModel = record { xorbs = c.remove.new.self; shards = i.shards; hidden = i.hidden; dedup = filled i.dedup; expiration = i.expiration } in
-    same_sound (record m { xorbs = remove i.xorbs c.args.hash.now }) n c.remove.ensures.removed refl (fewer_sound m c.args.hash.now c.self.invariant)
+    let m : StoreModel = record { xorbs = i.xorbs; shards = i.shards; hidden = i.hidden; dedup = filled i.dedup; expiration = i.expiration; max_ranges = i.max_ranges; dedup_seconds = i.dedup_seconds } in
+    let n : StoreModel = record { xorbs = c.remove.new.self; shards = i.shards; hidden = i.hidden; dedup = filled i.dedup; expiration = i.expiration; max_ranges = i.max_ranges; dedup_seconds = i.dedup_seconds } in
+    same_sound (record m { xorbs = remove i.xorbs c.args.hash.now }) n c.remove.ensures.removed refl refl (fewer_sound m c.args.hash.now c.self.invariant)

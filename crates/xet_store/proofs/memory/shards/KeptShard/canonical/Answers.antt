@@ -8,5 +8,6 @@ invariant_of-result c =
     let text : c.deref.result.now ≡ shard_bytes c.in_ok-shard.shard = c.deref.ensures ∙ c.in_ok-text.ensures.value in
     record {
       named = c.compute_data_hash-name.ensures ∙ ap data_hash (text ∙ ap shard_bytes (sym c.in_ok-shard.ensures.twice));
+      canonical = c.in_ok-shard.ensures.twice;
       rises = c.in_ok-shard.ensures.rises.files;
     }

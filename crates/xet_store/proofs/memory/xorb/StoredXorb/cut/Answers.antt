@@ -1,4 +1,6 @@
-use Rattle.std.proofs.Common.{◌≡◌, ◌∙◌, ◌++◌, ◌∷◌, ◌<◌, arith, [], List, ℕ, length, get_or, slice_range, sym, ap}
+use Rattle.std.proofs.Common.{◌≡◌, ◌∙◌, ◌++◌, ◌∷◌, ◌<◌, ◌^◌, arith, [], List, ℕ, length, sum, get_or, slice_range, sym, ap, subst}
+use Rattle.xet_xorb.specs.ChunkLists.{IsWellFormed, lengths_of}
+use Rattle.xet_store.proofs.TermLaws.{cut_short}
 use Rattle.std.proofs.lemmas.List.{length-map}
 use Rattle.xet_xorb.specs.Values.{Xorb}
 use Rattle.xet_xorb.specs.XorbBytes.{xorb_bytes}
@@ -24,3 +26,9 @@ loop-k-preserved c =
           ∙ ap (λ (d : List ℕ). slice_range cs s k ++ d ∷ []) chunk
           ∙ sym (range_more cs s k [] c.loop-k.invariant.from inside);
     }
+
+pub returns-clause-short : goal.returns-clause-short
+returns-clause-short c =
+    let cs = c.args.self.now in
+    let is : c.from_vec.result ≡ slice_range cs c.args.chunks.start c.loop-k.k = c.from_vec.ensures ∙ c.loop-k.invariant.cut in
+    subst (λ (ds : Chunks). sum (lengths_of ds) < 2 ^ 32) (sym is) (cut_short cs c.args.chunks.start c.loop-k.k (subst IsWellFormed c.self.view_is c.self.invariant.formed))
