@@ -1,8 +1,9 @@
 -- What the planner and the store answer, and why.
-use Rattle.std.proofs.Common.{◌≡◌, ℕ, inl, inr, true, false, Bool, cond, List, [], ◌∷◌, Option, Some, None, Result, Ok, Err, refl, sym, subst}
+use Rattle.std.proofs.Common.{◌≡◌, ℕ, inl, inr, true, false, Bool, cond, List, [], ◌∷◌, Option, Some, None, Result, Ok, Err, refl, sym, ap, subst, eqb}
 use Rattle.std.specs.Option.{is_some}
+use Rattle.std.proofs.lemmas.Bool.{eqb-true}
 use Rattle.xet_types.specs.declared.error.Refusal.{Refusal}
-use Rattle.xet_types.specs.declared.error.Refusal.TheVariants.{FormatError, InvalidRange, XORBNotFound, FileNotFound, Other}
+use Rattle.xet_types.specs.declared.error.Refusal.TheVariants.{FormatError, InvalidRange, InvalidArguments, XORBNotFound, FileNotFound, Other}
 use Rattle.xet_types.specs.declared.error.FormatFault.TheVariants as faults
 use Rattle.xet_types.specs.declared.range.Range.{Range}
 use Rattle.xet_types.specs.declared.range._F.{_F}
@@ -14,10 +15,11 @@ use Rattle.xet_plan.specs.declared.place.Reach.{Reach}
 use Rattle.xet_plan.specs.declared.place.Reach.TheVariants.{Past, Reversed, Within}
 use Rattle.xet_plan.specs.Plans.{PlanModel}
 use Rattle.xet_store.specs.StoreModel.{StoreModel, Chunks, stored, listing, known_of, shard_named, without_shard}
-use Rattle.xet_store.specs.Commands.{Is, done, UploadsXorb, UploadsOver, UploadsFresh, UploadsShard, delete_shard}
+use Rattle.xet_store.specs.Commands.{Is, done, UploadsXorb, UploadsOver, UploadsFresh, UploadsShard, delete_shard, set_max_ranges, InsertsSeeded}
+use Rattle.xet_store.specs.Checks.{checked}
 use Rattle.xet_store.specs.Questions.{asked, data_agreed, data_asked, data_listed, file_data, size_listed, file_size}
 use Rattle.xet_store.specs.Plans.{PlansFile, PlansListed, PlansReached, PlansWithin, Serves}
-use Rattle.xet_service.specs.declared.step.Act.TheVariants.{UploadXorb, UploadShard, Plan, DeleteShard, FileSize, FileData}
+use Rattle.xet_service.specs.declared.step.Act.TheVariants.{UploadXorb, UploadShard, Plan, DeleteShard, SetMaxRanges, FileSize, FileData, CheckIntegrity, CheckReachable, CheckReadable, InsertRandomXorb}
 use Rattle.xet_service.specs.declared.step.PlanVersion.{PlanVersion}
 use Rattle.xet_service.specs.World.{State}
 use Rattle.xet_service.specs.Causes.{HasCause, PlansLive, PlansNothing, AsksLive}
@@ -81,6 +83,10 @@ pub shard_refused : (s : State) (at : ℕ) (content : List ℕ) (new : StoreMode
 shard_refused s at content new (FormatError faults.Shard) h = (h.1, record { content = content; is = refl; unspelled = h.0 })
 shard_refused s at content new why h = absurd h
 
+pub generated_refused : (s : State) (at seed count size : ℕ) (new : StoreModel) (why : Refusal) → InsertsSeeded s.store seed count size (Err why) new → (new ≡ s.store) × HasCause s at (InsertRandomXorb seed count size) why
+generated_refused s at seed count size new InvalidArguments h = (h.1, inr (inr (inr (inr (record { seed = seed; count = count; size = size; is = refl; misshapen = h.0 })))))
+generated_refused s at seed count size new why h = absurd h
+
 -- ---- commands that are functions
 
 -- what is always done is never refused
@@ -102,7 +108,20 @@ shard_kept s at name new why h = of (is_some (shard_named s.store.shards name)) 
     of false e g =
         let one : ◌≡◌ {A = Result (Unit {0}) Refusal} (Err why) (Err Other) = g.0 in
         let same : why ≡ Other = cc in
-        (g.1, subst (HasCause s at (DeleteShard name)) (sym same) (inr (record { name = name; is = refl; unstored = none_of (shard_named s.store.shards name) e })))
+        (g.1, subst (HasCause s at (DeleteShard name)) (sym same) (inr (inl (record { name = name; is = refl; unstored = none_of (shard_named s.store.shards name) e }))))
+
+pub max_kept : (s : State) (at max : ℕ) (new : StoreModel) (why : Refusal) → Is (set_max_ranges s.store max) (Err why) new → (new ≡ s.store) × HasCause s at (SetMaxRanges max) why
+max_kept s at max new why h = of (eqb max 0) refl h
+  where
+    set_store : StoreModel
+    set_store = record s.store { max_ranges = max }
+
+    of : (b : Bool) → eqb max 0 ≡ b → Is (cond b (Err InvalidArguments, s.store) (done set_store)) (Err why) new → (new ≡ s.store) × HasCause s at (SetMaxRanges max) why
+    of true e g =
+        let one : ◌≡◌ {A = Result (Unit {0}) Refusal} (Err why) (Err InvalidArguments) = g.0 in
+        let same : why ≡ InvalidArguments = cc in
+        (g.1, subst (HasCause s at (SetMaxRanges max)) (sym same) (inr (inr (inr (inl (record { is = ap (λ (n : ℕ). SetMaxRanges n) (eqb-true max 0 e) }))))))
+    of false e g = never_refused s.store set_store new why ((new ≡ s.store) × HasCause s at (SetMaxRanges max) why) g
 
 -- ---- questions
 
@@ -112,6 +131,11 @@ size_refused s at file why h = of (listing s.store file) refl h
     of : (o : Option (List Segment)) → listing s.store file ≡ o → size_listed file o ≡ Err why → HasCause s at (FileSize file) why
     of None e g = let same : FileNotFound file ≡ why = cc in subst (HasCause s at (FileSize file)) same (record { is = refl; gone = e })
     of (Some segments) e g = absurd cc
+
+-- a check that fails
+pub check_refused : (C : Refusal → Type 0) (holds : Bool) (why : Refusal) → (holds ≡ false → C Other) → checked holds ≡ Err why → C why
+check_refused C true why cause e = absurd cc
+check_refused C false why cause e = let same : Other ≡ why = cc in subst C same (cause refl)
 
 -- the faults of segments
 abbrev IsFault : Refusal → Type 0

@@ -9,9 +9,10 @@ use Rattle.xet_types.specs.declared.range.Range.{Range}
 use Rattle.xet_types.specs.declared.range._F.{_F}
 use Rattle.xet_types.specs.declared.record.XorbRangeDescriptor.{XorbRangeDescriptor}
 use Rattle.xet_types.specs.Ranges.{file_range_of}
-use Rattle.xet_types.specs.Records.{FirstPlan}
+use Rattle.xet_types.specs.Records.{SecondPlan}
 use Rattle.xet_xorb.specs.Lengths.{serialized_length}
 use Rattle.xet_xorb.specs.ChunkLists.{lengths_of}
+use Rattle.xet_xorb.specs.Generated.{seeded_chunks}
 use Rattle.xet_xorb.specs.XorbBytes.{AreWholeChunks}
 use Rattle.xet_xorb.proofs.Footing.{IsXorbText-unique}
 use Rattle.xet_xorb.proofs.WholeChunks.{AreWholeChunks-unique}
@@ -32,21 +33,27 @@ use Rattle.xet_plan.specs.Plans.{PlanModel}
 use Rattle.xet_plan.specs.Answers.{packed_at, groups_of}
 use Rattle.xet_plan.proofs.Unique.{merged_unique}
 use Rattle.xet_store.specs.StoreModel.{StoreModel, Chunks, stored, listing, known_of, with_xorb, accepted}
-use Rattle.xet_store.specs.Commands.{Outcome as StoreOutcome, Is, UploadsXorb, UploadsOver, UploadsFresh, UploadsShard, hide_file, delete_shard, delete_xorb, set_expiration}
-use Rattle.xet_store.specs.Questions.{file_size, file_data}
+use Rattle.xet_store.specs.Commands.{Outcome as StoreOutcome, Is, UploadsXorb, UploadsOver, UploadsFresh, UploadsShard, hide_file, delete_shard, delete_xorb, set_expiration, set_max_ranges, set_dedup_expiration, drop_dedup, insert_xorb, InsertsSeeded}
+use Rattle.xet_store.specs.TermData.{is_expired}
+use Rattle.xet_store.specs.Questions.{file_size, file_data, dedup_answer, xorb_hashes}
+use Rattle.xet_store.specs.Lists.{shard_hashes, file_entries}
+use Rattle.xet_store.specs.Checks.{checked, integrity, reachable, readable}
 use Rattle.xet_store.specs.Plans.{Serves, PlansListed, PlansReached, PlansWithin}
-use Rattle.xet_store.specs.Responses.{response_of, Responds}
+use Rattle.xet_store.specs.Responses.{response_by, RespondsBy}
 use Rattle.xet_service.specs.declared.step.Act.{Act}
-use Rattle.xet_service.specs.declared.step.Act.TheVariants.{UploadXorb, UploadShard, Plan, Fetch, Abandon, HideFile, DeleteShard, DeleteXorb, SetExpiration, FileSize, FileData}
+use Rattle.xet_service.specs.declared.step.Act.TheVariants.{UploadXorb, UploadShard, Plan, Fetch, Abandon, HideFile, DeleteShard, DeleteXorb, SetExpiration, SetMaxRanges, FileSize, FileData, SetDedupExpiration, DedupQuery, RemoveDedup, ListXorbs, ListShards, ListFiles, CheckIntegrity, CheckReachable, CheckReadable, InsertRandomXorb}
+use Rattle.xet_service.specs.declared.step.PlanVersion.{PlanVersion}
 use Rattle.xet_service.specs.declared.reply.Reply.{Reply}
-use Rattle.xet_service.specs.declared.reply.Reply.TheVariants.{Uploaded, ShardTaken, Size, Data}
+use Rattle.xet_service.specs.declared.reply.Reply.TheVariants.{Uploaded, ShardTaken, Size, Data, Hashes, Files, Random}
 use Rattle.xet_service.specs.declared.read.OpenRead.{OpenRead}
-use Rattle.xet_service.specs.declared.reader.held.HeldTerm.{HeldTerm}
 use Rattle.xet_service.specs.declared.reader.link.ReadLink.{ReadLink}
-use Rattle.xet_service.specs.Bodies.{stored_body}
-use Rattle.xet_service.specs.Reading.{Reading, left_link, only_range, take_link, fits, IsOne, BringsOne, BringsPlain, Brings, BringsTo, Accepts}
+use Rattle.xet_service.specs.Bodies.{Body, type_text}
+use Rattle.xet_service.specs.Links.{answer_of}
+use Rattle.xet_service.specs.Reading.{Reading, left_link, take_link, Accepts}
+use Rattle.xet_service.proofs.ReaderAnswers.{gives_same}
+use Rattle.xet_service.proofs.Sent.{stored_sent_once}
 use Rattle.xet_service.specs.World.{State, Reads}
-use Rattle.xet_service.specs.Steps.{keeps_reads, plan_step, fetch_taken, TakesBody, FetchesBody, FetchesRange, FetchesIf, FetchesLink, FetchesRead, Fetches, is_expired, abandon_step, map_ok, asks, was_done, Commands, PlansBy, Acts}
+use Rattle.xet_service.specs.Steps.{keeps_reads, plan_step, fetch_taken, asked_bytes, TakesBody, FetchesBody, FetchesIf, FetchesLink, FetchesRead, Fetches, abandon_step, map_ok, asks, was_done, Commands, PlansBy, Acts, shard_reply}
 
 -- one answer and one thing left
 abbrev pub Same : {X Y : Type 0} → X → X → Y → Y → Type 0
@@ -100,6 +107,16 @@ module _ (old : StoreModel) (content : List ℕ) (n k : StoreModel) where
 
 is_same : {T : Type 0} (o : StoreOutcome T) (n k : StoreModel) (a b : Result T Refusal) → Is o a n → Is o b k → Same a b n k
 is_same o n k a b h g = (h.0 ∙ sym g.0, h.1 ∙ sym g.1)
+
+module _ (old : StoreModel) (seed count size : ℕ) (n k : StoreModel) where
+  pub inserts_same : (a b : Result (List ℕ) Refusal) → InsertsSeeded old seed count size a n → InsertsSeeded old seed count size b k → Same a b n k
+  inserts_same (Ok x) (Ok y) h g = is_same (insert_xorb old (seeded_chunks seed count size)) n k (Ok x) (Ok y) h.1 g.1
+  inserts_same (Ok x) (Err InvalidArguments) h g = absurd (g.0 h.0)
+  inserts_same (Ok x) (Err why) h g = absurd g
+  inserts_same (Err InvalidArguments) (Ok y) h g = absurd (h.0 g.0)
+  inserts_same (Err InvalidArguments) (Err InvalidArguments) h g = (refl, h.1 ∙ sym g.1)
+  inserts_same (Err InvalidArguments) (Err why) h g = absurd g
+  inserts_same (Err why) b h g = absurd h
 
 -- ---- commands
 
@@ -174,55 +191,14 @@ listed_same : (known : Known) (range : Option (Range ℕ _F)) (o : Option (List 
 listed_same known range None a b h g = h ∙ sym g
 listed_same known range (Some segments) a b h g = reached_same known segments range (reach (size_of segments) range) a b h g
 
-responds_same : (m : StoreModel) (file : List ℕ) (range : Option (Range ℕ _F)) (at : ℕ) (a b : Result (Option FirstPlan) Refusal) → Responds m file range at a → Responds m file range at b → a ≡ b
-responds_same m file range at a b h g = h.response ∙ ap (response_of at) (listed_same (known_of m) range (listing m file) h.answer g.answer h.plans g.plans) ∙ sym g.response
+responds_same : (f : PlanModel → SecondPlan) (m : StoreModel) (file : List ℕ) (range : Option (Range ℕ _F)) (a b : Result (Option SecondPlan) Refusal) → RespondsBy f m file range a → RespondsBy f m file range b → a ≡ b
+responds_same f m file range a b h g = h.response ∙ ap (response_by f) (listed_same (known_of m) range (listing m file) h.answer g.answer h.plans g.plans) ∙ sym g.response
 
-plans_same : (s t u : State) (file : List ℕ) (range : Option (Range ℕ _F)) (at : ℕ) (r q : Result Reply Refusal) → PlansBy s file range at r t → PlansBy s file range at q u → Same r q t u
-plans_same s t u file range at r q h g =
-    pair_same (plan_step s range at h.answer) r q t u h.step (ap (plan_step s range at) (responds_same s.store file range at h.answer g.answer h.responds g.responds) ∙ g.step)
+plans_same : (s t u : State) (version : PlanVersion) (file : List ℕ) (range : Option (Range ℕ _F)) (at : ℕ) (r q : Result Reply Refusal) → PlansBy s version file range at r t → PlansBy s version file range at q u → Same r q t u
+plans_same s t u version file range at r q h g =
+    pair_same (plan_step s version range at h.answer) r q t u h.step (ap (plan_step s version range at) (responds_same (answer_of version s.store.max_ranges at) s.store file range h.answer g.answer h.responds g.responds) ∙ g.step)
 
 -- ---- fetches
-
-pub unlike : (range : XorbRangeDescriptor) (held : List HeldTerm) (body : List ℕ) (cs ds : Chunks) → AreWholeChunks body cs → AreWholeChunks body ds → fits range held cs ≡ true → fits range held ds ≡ false → ⊥
-unlike range held body cs ds a b fit misfit =
-    let f : true ≡ false = sym fit ∙ ap (fits range held) (AreWholeChunks-unique body cs ds a b) ∙ misfit in absurd cc
-
-one_same : (range : XorbRangeDescriptor) (held : List HeldTerm) (body : List ℕ) (a b : Result (List Chunks) Refusal) → BringsOne IsOne range held body a → BringsOne IsOne range held body b → a ≡ b
-one_same range held body (Ok x) (Ok y) h g = ap Ok (h.1.1 ∙ ap (λ (cs : Chunks). cs ∷ []) (AreWholeChunks-unique body h.0 g.0 h.1.0.whole g.1.0.whole) ∙ sym g.1.1)
-one_same range held body (Ok x) (Err Other) h g = absurd (g h.1.0.sized)
-one_same range held body (Ok x) (Err (FormatError faults.Xorb)) h g = absurd (g.none h.0 h.1.0.whole)
-one_same range held body (Ok x) (Err (FormatError faults.Body)) h g = absurd (unlike range held body h.0 g.chunks h.1.0.whole g.whole h.1.0.fit g.misfit)
-one_same range held body (Ok x) (Err why) h g = absurd g
-one_same range held body (Err Other) (Ok y) h g = absurd (h g.1.0.sized)
-one_same range held body (Err Other) (Err Other) h g = refl
-one_same range held body (Err Other) (Err (FormatError faults.Xorb)) h g = absurd (h g.sized)
-one_same range held body (Err Other) (Err (FormatError faults.Body)) h g = absurd (h g.sized)
-one_same range held body (Err Other) (Err why) h g = absurd g
-one_same range held body (Err (FormatError faults.Xorb)) (Ok y) h g = absurd (h.none g.0 g.1.0.whole)
-one_same range held body (Err (FormatError faults.Xorb)) (Err Other) h g = absurd (g h.sized)
-one_same range held body (Err (FormatError faults.Xorb)) (Err (FormatError faults.Xorb)) h g = refl
-one_same range held body (Err (FormatError faults.Xorb)) (Err (FormatError faults.Body)) h g = absurd (h.none g.chunks g.whole)
-one_same range held body (Err (FormatError faults.Xorb)) (Err why) h g = absurd g
-one_same range held body (Err (FormatError faults.Body)) (Ok y) h g = absurd (unlike range held body g.0 h.chunks g.1.0.whole h.whole g.1.0.fit h.misfit)
-one_same range held body (Err (FormatError faults.Body)) (Err Other) h g = absurd (g h.sized)
-one_same range held body (Err (FormatError faults.Body)) (Err (FormatError faults.Xorb)) h g = absurd (g.none h.chunks h.whole)
-one_same range held body (Err (FormatError faults.Body)) (Err (FormatError faults.Body)) h g = refl
-one_same range held body (Err (FormatError faults.Body)) (Err why) h g = absurd g
-one_same range held body (Err why) b h g = absurd h
-
-plain_same : (o : Option XorbRangeDescriptor) (held : List HeldTerm) (body : List ℕ) (a b : Result (List Chunks) Refusal) → BringsPlain IsOne o held body a → BringsPlain IsOne o held body b → a ≡ b
-plain_same None held body a b h g = h ∙ sym g
-plain_same (Some range) held body a b h g = one_same range held body a b h g
-
-brings_same : (l : ReadLink) (content_type body : List ℕ) (a b : Result (List Chunks) Refusal) → Brings IsOne l content_type body a → Brings IsOne l content_type body b → a ≡ b
-brings_same l content_type body a b (inl h) (inl g) = h.1 ∙ sym g.1
-brings_same l content_type body a b (inl h) (inr g) = absurd (g.0 h.0)
-brings_same l content_type body a b (inr h) (inl g) = absurd (h.0 g.0)
-brings_same l content_type body a b (inr h) (inr g) = plain_same (only_range l.ranges) l.held body a b h.1 g.1
-
-gives_same : (o : Option ReadLink) (content_type body : List ℕ) (a b : Result (List Chunks) Refusal) → BringsTo IsOne o content_type body a → BringsTo IsOne o content_type body b → a ≡ b
-gives_same None content_type body a b h g = h ∙ sym g
-gives_same (Some l) content_type body a b h g = brings_same l content_type body a b h g
 
 abbrev ok_chunks : List Chunks → Result (List Chunks) Refusal
 ok_chunks got = Ok got
@@ -246,23 +222,19 @@ module _ (store : StoreModel) (old : Reads) (read link at : ℕ) (r q : Result R
   refused_same : (why : Refusal) → keeps_reads old why ≡ (r, x) → keeps_reads old why ≡ (q, y) → Same r q x y
   refused_same why h g = pair_same (keeps_reads old why) r q x y h g
 
-  takes_same : (o : OpenRead) (body : List ℕ) → TakesBody old read link o body r x → TakesBody old read link o body q y → Same r q x y
+  takes_same : (o : OpenRead) (body : Body) → TakesBody old read link o body r x → TakesBody old read link o body q y → Same r q x y
   takes_same o body h g =
-      let one = accepts_same o.reader link [] body h.answer g.answer h.after g.after h.accepts g.accepts in
-      pair_same (fetch_taken old read link (length body) o h.answer h.after) r q x y h.step
-      (ap (λ (a : Result (Unit {0}) Refusal). fetch_taken old read link (length body) o a h.after) one.0 ∙ ap (fetch_taken old read link (length body) o g.answer) one.1 ∙ g.step)
+      let one = accepts_same o.reader link (type_text body.content_type) body.bytes h.answer g.answer h.after g.after h.accepts g.accepts in
+      pair_same (fetch_taken old read link (length body.bytes) o h.answer h.after) r q x y h.step
+      (ap (λ (a : Result (Unit {0}) Refusal). fetch_taken old read link (length body.bytes) o a h.after) one.0 ∙ ap (fetch_taken old read link (length body.bytes) o g.answer) one.1 ∙ g.step)
 
-  body_same : (o : OpenRead) (a : Result (List ℕ) Refusal) → FetchesBody old read link o a r x → FetchesBody old read link o a q y → Same r q x y
+  body_same : (o : OpenRead) (a : Result Body Refusal) → FetchesBody old read link o a r x → FetchesBody old read link o a q y → Same r q x y
   body_same o (Ok body) h g = takes_same o body h g
   body_same o (Err why) h g = refused_same why h g
 
-  range_same : (o : OpenRead) (hash : List ℕ) (d : Option XorbRangeDescriptor) → FetchesRange store old read link o hash d r x → FetchesRange store old read link o hash d q y → Same r q x y
-  range_same o hash None h g = refused_same Other h g
-  range_same o hash (Some range) h g = body_same o (stored_body store hash (file_range_of range.bytes)) h g
-
   if_same : (o : OpenRead) (l : ReadLink) (b : Bool) → FetchesIf store old read link o l b r x → FetchesIf store old read link o l b q y → Same r q x y
   if_same o l true h g = refused_same PresignedUrlExpirationError h g
-  if_same o l false h g = range_same o l.hash (only_range l.ranges) h g
+  if_same o l false h g = body_same o g.body (subst (λ (a : Result Body Refusal). FetchesBody old read link o a r x) (stored_sent_once store l.hash (asked_bytes l.ranges) h.body g.body h.sent g.sent) h.brings) g.brings
 
   link_same : (o : OpenRead) (l : Option ReadLink) → FetchesLink store old read link at o l r x → FetchesLink store old read link at o l q y → Same r q x y
   link_same o None h g = refused_same InvalidArguments h g
@@ -282,12 +254,23 @@ fetches_same s t u read link at r q h g =
 pub acts_same : (s t u : State) (at : ℕ) (act : Act) (r q : Result Reply Refusal) → Acts s at act r t → Acts s at act q u → Same r q t u
 acts_same s t u at (UploadXorb hash content) r q h g = command_same (UploadsXorb s.store hash content) Uploaded s t u r q (λ n k a b. xorb_same s.store hash content n k a b) h g
 acts_same s t u at (UploadShard content) r q h g = command_same (UploadsShard s.store content) ShardTaken s t u r q (λ n k a b. shard_same s.store content n k a b) h g
-acts_same s t u at (Plan version file range) r q h g = plans_same s t u file range at r q h g
+acts_same s t u at (Plan version file range) r q h g = plans_same s t u version file range at r q h g
 acts_same s t u at (Fetch read link) r q h g = fetches_same s t u read link at r q h g
 acts_same s t u at (Abandon read) r q h g = pair_same (abandon_step s read) r q t u h g
 acts_same s t u at (HideFile file) r q h g = command_same (Is (hide_file s.store file)) was_done s t u r q (is_same (hide_file s.store file)) h g
 acts_same s t u at (DeleteShard shard) r q h g = command_same (Is (delete_shard s.store shard)) was_done s t u r q (is_same (delete_shard s.store shard)) h g
 acts_same s t u at (DeleteXorb xorb) r q h g = command_same (Is (delete_xorb s.store xorb)) was_done s t u r q (is_same (delete_xorb s.store xorb)) h g
 acts_same s t u at (SetExpiration millis) r q h g = command_same (Is (set_expiration s.store millis)) was_done s t u r q (is_same (set_expiration s.store millis)) h g
+acts_same s t u at (SetDedupExpiration millis) r q h g = command_same (Is (set_dedup_expiration s.store millis)) was_done s t u r q (is_same (set_dedup_expiration s.store millis)) h g
+acts_same s t u at (DedupQuery chunk) r q h g = pair_same (asks shard_reply s (Ok (dedup_answer s.store chunk at))) r q t u h g
+acts_same s t u at (SetMaxRanges max) r q h g = command_same (Is (set_max_ranges s.store max)) was_done s t u r q (is_same (set_max_ranges s.store max)) h g
+acts_same s t u at (RemoveDedup shard) r q h g = command_same (Is (drop_dedup s.store shard)) was_done s t u r q (is_same (drop_dedup s.store shard)) h g
+acts_same s t u at ListXorbs r q h g = pair_same (asks Hashes s (Ok (xorb_hashes s.store))) r q t u h g
+acts_same s t u at ListShards r q h g = pair_same (asks Hashes s (Ok (shard_hashes s.store))) r q t u h g
+acts_same s t u at ListFiles r q h g = pair_same (asks Files s (Ok (file_entries s.store))) r q t u h g
+acts_same s t u at CheckIntegrity r q h g = pair_same (asks was_done s (checked (integrity s.store))) r q t u h g
+acts_same s t u at CheckReachable r q h g = pair_same (asks was_done s (checked (reachable s.store))) r q t u h g
+acts_same s t u at CheckReadable r q h g = pair_same (asks was_done s (checked (readable s.store))) r q t u h g
+acts_same s t u at (InsertRandomXorb seed count size) r q h g = command_same (InsertsSeeded s.store seed count size) Random s t u r q (λ n k a b. inserts_same s.store seed count size n k a b) h g
 acts_same s t u at (FileSize file) r q h g = pair_same (asks Size s (file_size s.store file)) r q t u h g
 acts_same s t u at (FileData file range) r q h g = pair_same (asks Data s (file_data s.store file range)) r q t u h g

@@ -1,10 +1,16 @@
 -- What an act does over a store that tells its model, from what the store's call answers.
-use Rattle.std.proofs.Common.{◌≡◌, ℕ, Option, Some, None, Result, Ok, Err, refl, sym, ap, subst}
+use Rattle.std.proofs.Common.{◌≡◌, ℕ, List, Option, Some, None, Result, Ok, Err, refl, sym, ap, subst}
+use Rattle.std.specs.Global.{Vec}
 use Rattle.xet_types.specs.Faults.{refusal_of}
 use Rattle.xet_types.specs.declared.error.ClientError.{ClientError}
 use Rattle.xet_types.specs.declared.error.Refusal.{Refusal}
 use Rattle.xet_types.specs.declared.error.Refusal.TheVariants.{FormatError, InvalidRange, InvalidArguments, FileNotFound, XORBNotFound, PresignedUrlExpirationError, IOError, Other, InvalidKey, CacheError, HttpStatus}
-use Rattle.xet_store.specs.StoreModel.{StoreModel}
+use Rattle.xet_store.specs.StoreModel.{StoreModel, Chunks}
+use Rattle.xet_store.specs.Questions.{HasItems}
+use Rattle.xet_types.specs.Names.{xorb_name}
+use Rattle.xet_xorb.specs.ChunkLists.{IsWellFormed}
+use Rattle.xet_xorb.specs.Generated.{seeded_chunks}
+use Rattle.xet_store.specs.Commands.{Is, insert_xorb, InsertsSeeded}
 use Rattle.xet_store.specs.Told.{Asks, AsksErr, Follows, FollowsErr, Leaves}
 use Rattle.xet_service.specs.declared.reply.Reply.{Reply}
 use Rattle.xet_service.specs.World.{State, Reads, state}
@@ -21,6 +27,31 @@ leaves_same m P after e h = subst (Leaves P) (sym e) h
 pub leaves_by : (Q : Type 0) (P : StoreModel → Type 0) (after : Option StoreModel) → Leaves P after → ((m : StoreModel) → after ≡ Some m → P m → Q) → Q
 leaves_by Q P None h f = absurd h
 leaves_by Q P (Some m) h f = f m refl h
+
+-- what a command does, seen as more
+module _ {T : Type 0} (D E : Result T Refusal → StoreModel → Type 0) (m : StoreModel) (after : Option StoreModel) (more : (r : Result T Refusal) (n : StoreModel) → D r n → E r n) where
+  follows_err : (o : Option Refusal) → FollowsErr D m o after → FollowsErr E m o after
+  follows_err None h = h
+  follows_err (Some IOError) h = h
+  follows_err (Some (FormatError f)) h = leaves_more (D (Err (FormatError f))) (E (Err (FormatError f))) after (more (Err (FormatError f))) h
+  follows_err (Some InvalidRange) h = leaves_more (D (Err InvalidRange)) (E (Err InvalidRange)) after (more (Err InvalidRange)) h
+  follows_err (Some InvalidArguments) h = leaves_more (D (Err InvalidArguments)) (E (Err InvalidArguments)) after (more (Err InvalidArguments)) h
+  follows_err (Some (FileNotFound f)) h = leaves_more (D (Err (FileNotFound f))) (E (Err (FileNotFound f))) after (more (Err (FileNotFound f))) h
+  follows_err (Some (XORBNotFound f)) h = leaves_more (D (Err (XORBNotFound f))) (E (Err (XORBNotFound f))) after (more (Err (XORBNotFound f))) h
+  follows_err (Some PresignedUrlExpirationError) h = leaves_more (D (Err PresignedUrlExpirationError)) (E (Err PresignedUrlExpirationError)) after (more (Err PresignedUrlExpirationError)) h
+  follows_err (Some Other) h = leaves_more (D (Err Other)) (E (Err Other)) after (more (Err Other)) h
+  follows_err (Some InvalidKey) h = leaves_more (D (Err InvalidKey)) (E (Err InvalidKey)) after (more (Err InvalidKey)) h
+  follows_err (Some CacheError) h = leaves_more (D (Err CacheError)) (E (Err CacheError)) after (more (Err CacheError)) h
+  follows_err (Some (HttpStatus n)) h = leaves_more (D (Err (HttpStatus n))) (E (Err (HttpStatus n))) after (more (Err (HttpStatus n))) h
+
+  pub follows_more : (a : Result T ClientError) → Follows D m a after → Follows E m a after
+  follows_more (Ok x) h = leaves_more (D (Ok x)) (E (Ok x)) after (more (Ok x)) h
+  follows_more (Err e) h = follows_err (refusal_of e) h
+
+-- the generated xorb that was inserted is that of the seed
+pub seeded_inserted : (m : StoreModel) (seed count size : ℕ) (xorb : Chunks) → IsWellFormed (seeded_chunks seed count size) → xorb ≡ seeded_chunks seed count size → (r : Result (List ℕ) Refusal) (n : StoreModel) → Is (insert_xorb m xorb) r n → InsertsSeeded m seed count size r n
+seeded_inserted m seed count size xorb formed is (Ok hash) n h = (formed, subst (λ (x : Chunks). Is (insert_xorb m x) (Ok hash) n) is h)
+seeded_inserted m seed count size xorb formed is (Err why) n h = absurd (let e : ◌≡◌ {A = Result (List ℕ) Refusal} (Err why) (Ok (xorb_name xorb)) = h.0 in cc)
 
 -- one of the refusals that a store's model answers, or a cause of nothing
 module _ (m : StoreModel) (reads : Reads) (next : ℕ) (after : Option StoreModel) where
@@ -68,3 +99,8 @@ module _ (m : StoreModel) (reads : Reads) (next : ℕ) where
       → Does (λ r s. asks f (state m reads next) answer ≡ (r, s)) (state m reads next) (map_ok f a) (state m reads next)
   ask_does answer f (Ok x) h = ap (λ (r : Result _ Refusal). asks f (state m reads next) r) (sym h)
   ask_does answer f (Err e) h = asked_does (λ r. r ≡ answer) (λ r s. asks f (state m reads next) answer ≡ (r, s)) (refusal_of e) (λ why e. ap (λ (r : Result _ Refusal). asks f (state m reads next) r) (sym e)) h
+
+  pub items_do : {T : Type 0} (items : List T) (f : List T → Reply) (a : Result (Vec T) ClientError) → Asks (HasItems (Ok items)) a
+      → Does (λ r s. asks f (state m reads next) (Ok items) ≡ (r, s)) (state m reads next) (map_ok (λ (v : Vec T). f v.items) a) (state m reads next)
+  items_do {T} items f (Ok v) h = ap (λ (xs : List T). asks f (state m reads next) (Ok xs)) (sym h)
+  items_do {T} items f (Err e) h = asked_does (HasItems (Ok items)) (λ r s. asks f (state m reads next) (Ok items) ≡ (r, s)) (refusal_of e) (λ why none. absurd none) h

@@ -1,23 +1,22 @@
 -- A fetch from what its calls answer.
-use Rattle.std.proofs.Common.{◌≡◌, ◌∙◌, ℕ, false, Bool, List, Option, Some, None, Result, Ok, Err, refl, sym, ap, subst}
+use Rattle.std.proofs.Common.{◌≡◌, ◌∙◌, ℕ, false, Bool, Option, Some, None, Result, Ok, Err, refl, sym, ap, subst}
 use Rattle.std.specs.FinMap.{get}
 use Rattle.xet_types.specs.Faults.{refusal_of}
-use Rattle.xet_types.specs.Ranges.{file_range_of}
 use Rattle.xet_types.specs.declared.error.ClientError.{ClientError}
 use Rattle.xet_types.specs.declared.error.ClientError.TheVariants as errors
 use Rattle.xet_types.specs.declared.error.Refusal.{Refusal}
 use Rattle.xet_types.specs.declared.error.Refusal.TheVariants.{FormatError, InvalidRange, InvalidArguments, FileNotFound, XORBNotFound, PresignedUrlExpirationError, IOError, Other, InvalidKey, CacheError, HttpStatus}
-use Rattle.xet_types.specs.declared.record.XorbRangeDescriptor.{XorbRangeDescriptor}
 use Rattle.xet_store.specs.Answered.{Answered, AnsweredErr}
 use Rattle.xet_store.specs.StoreModel.{StoreModel}
 use Rattle.xet_service.specs.declared.step.Act.TheVariants.{Fetch}
 use Rattle.xet_service.specs.declared.reply.Reply.{Reply}
 use Rattle.xet_service.specs.declared.read.OpenRead.{OpenRead}
 use Rattle.xet_service.specs.declared.reader.link.ReadLink.{ReadLink}
-use Rattle.xet_service.specs.Bodies.{Body, stored_body, plain}
-use Rattle.xet_service.specs.Reading.{left_link, only_range}
+use Rattle.xet_service.specs.Bodies.{Body, SendsStored}
+use Rattle.xet_service.specs.Reading.{left_link}
 use Rattle.xet_service.specs.World.{Reads, state}
-use Rattle.xet_service.specs.Steps.{TakesBody, FetchesBody, FetchesRange, FetchesIf, FetchesLink, FetchesRead, Fetches, is_expired, Does, DoesErr}
+use Rattle.xet_service.specs.Steps.{asked_bytes, TakesBody, FetchesSent, FetchesIf, FetchesLink, FetchesRead, Fetches, Does, DoesErr}
+use Rattle.xet_store.specs.TermData.{is_expired}
 use Rattle.xet_service.specs.Requests.{TakesAt}
 use Rattle.xet_service.specs.Causes.{IsAsked}
 use Rattle.xet_service.proofs.Replying.{failure_is}
@@ -28,23 +27,18 @@ fresh_is at stamp n limit expired same is not = ap (λ (k : ℕ). is_expired at 
 pub asked_is : (m : StoreModel) (reads : Reads) (next at read link : ℕ) (r : OpenRead) (l : ReadLink) → Some r ≡ get reads read → Some l ≡ left_link r.reader.links link → is_expired at r.stamp m.expiration ≡ false → IsAsked (state m reads next) at (Fetch read link)
 asked_is m reads next at read link r l there left fresh = (record { held = r; it = l; open_it = sym there; left = sym left }, fresh)
 
-pub plain_ok : (a : Result (List ℕ) Refusal) (b : Body) → ◌≡◌ {A = Result Body Refusal} (Ok b) (plain a) → a ≡ Ok b.bytes
-plain_ok (Ok bytes) b e = let same : bytes ≡ b.bytes = ap (λ (x : Body). x.bytes) (let f : record { content_type = None; bytes = bytes } ≡ b = cc in f) in ap Ok same
-plain_ok (Err why) b e = absurd cc
-
 abbrev some_read : OpenRead → Option OpenRead
 some_read r = Some r
 
-module _ (m : StoreModel) (reads after : Reads) (next at read link : ℕ) (r : OpenRead) (l : ReadLink) (range : XorbRangeDescriptor) (body : List ℕ)
-    (there : Some r ≡ get reads read) (left : Some l ≡ left_link r.reader.links link) (fresh : is_expired at r.stamp m.expiration ≡ false) (only : Some range ≡ only_range l.ranges) (brought : stored_body m l.hash (file_range_of range.bytes) ≡ Ok body) where
+module _ (m : StoreModel) (reads after : Reads) (next at read link : ℕ) (r : OpenRead) (l : ReadLink) (body : Body)
+    (there : Some r ≡ get reads read) (left : Some l ≡ left_link r.reader.links link) (fresh : is_expired at r.stamp m.expiration ≡ false) (sent : SendsStored m l.hash (asked_bytes l.ranges) (Ok body)) where
   by : (x : Result Reply Refusal) → TakesAt reads read link body x after → Fetches (state m reads next) read link at x (state m after next)
   by x t =
       let found : some_read t.0 ≡ some_read r = sym t.1.0 ∙ sym there in
       let same : t.0 ≡ r = cc in
       let takes : TakesBody reads read link r body x after = subst (λ (q : OpenRead). TakesBody reads read link q body x after) same t.1.1 in
-      let bodied : FetchesBody reads read link r (stored_body m l.hash (file_range_of range.bytes)) x after = subst (λ (a : Result (List ℕ) Refusal). FetchesBody reads read link r a x after) (sym brought) takes in
-      let ranged : FetchesRange m reads read link r l.hash (only_range l.ranges) x after = subst (λ (o : Option XorbRangeDescriptor). FetchesRange m reads read link r l.hash o x after) only bodied in
-      let aged : FetchesIf m reads read link r l (is_expired at r.stamp m.expiration) x after = subst (λ (b : Bool). FetchesIf m reads read link r l b x after) (sym fresh) ranged in
+      let bodied : FetchesSent m reads read link r l x after = record { body = Ok body; sent = sent; brings = takes } in
+      let aged : FetchesIf m reads read link r l (is_expired at r.stamp m.expiration) x after = subst (λ (b : Bool). FetchesIf m reads read link r l b x after) (sym fresh) bodied in
       let linked : FetchesLink m reads read link at r (left_link r.reader.links link) x after = subst (λ (o : Option ReadLink). FetchesLink m reads read link at r o x after) left aged in
       record { reads = subst (λ (o : Option OpenRead). FetchesRead m reads read link at o x after) there linked; rest = refl }
 

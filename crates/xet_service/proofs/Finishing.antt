@@ -4,38 +4,39 @@ use Rattle.std.proofs.lemmas.Bool.{eqb-true, eq-eqb}
 use Rattle.std.specs.List.{AllByRecursion}
 use Rattle.std.specs.Ordering.{nat_cmp}
 use Rattle.std.specs.FinMap.{get, insert, remove, get-empty}
-use Rattle.xet_types.specs.Ranges.{file_range_of}
-use Rattle.xet_types.specs.Records.{second_of}
+use Rattle.xet_types.specs.Records.{SecondPlan}
 use Rattle.xet_types.specs.declared.error.Refusal.{Refusal}
-use Rattle.xet_types.specs.declared.error.Refusal.TheVariants.{InvalidArguments, PresignedUrlExpirationError, IOError, Other}
+use Rattle.xet_types.specs.declared.error.Refusal.TheVariants.{InvalidArguments, PresignedUrlExpirationError, IOError}
 use Rattle.xet_types.specs.declared.range.Range.{Range}
 use Rattle.xet_types.specs.declared.range._F.{_F}
-use Rattle.xet_types.specs.declared.record.XorbRangeDescriptor.{XorbRangeDescriptor}
 use Rattle.xet_shard.specs.declared.listing.Segment.{Segment}
 use Rattle.xet_plan.specs.Places.{Interval}
 use Rattle.xet_plan.specs.FileBytes.{Content, file_bytes as bytes_within}
 use Rattle.xet_plan.specs.Plans.{PlanModel}
 use Rattle.xet_store.specs.StoreModel.{StoreModel, Chunks, known_of, content_of, IsSound}
-use Rattle.xet_store.specs.Commands.{Is, UploadsXorb, UploadsShard, hide_file, delete_shard, delete_xorb, set_expiration}
-use Rattle.xet_store.specs.Questions.{file_size, file_data}
+use Rattle.xet_store.specs.Commands.{Is, UploadsXorb, UploadsShard, hide_file, delete_shard, delete_xorb, set_expiration, set_max_ranges, set_dedup_expiration, drop_dedup, InsertsSeeded}
+use Rattle.xet_store.specs.TermData.{is_expired}
+use Rattle.xet_store.specs.Questions.{file_size, file_data, dedup_answer, xorb_hashes}
+use Rattle.xet_store.specs.Lists.{shard_hashes, file_entries}
+use Rattle.xet_store.specs.Checks.{checked, integrity, reachable, readable}
 use Rattle.xet_store.specs.Plans.{Serves, file_bytes, bytes_listed, bytes_reached, bytes_clipped}
-use Rattle.xet_store.specs.Responses.{first_of, response_of}
-use Rattle.xet_store.proofs.StoreLaws.{uploads_xorb_sound, uploads_shard_sound, fewer_sound, same_sound, without_shard_sound, delete_leaves}
+use Rattle.xet_store.specs.Responses.{response_by}
+use Rattle.xet_store.proofs.StoreLaws.{uploads_xorb_sound, uploads_shard_sound, fewer_sound, same_sound, without_shard_sound, delete_leaves, set_max_sound, inserts_sound}
 use Rattle.xet_service.specs.declared.step.Act.{Act}
-use Rattle.xet_service.specs.declared.step.Act.TheVariants.{UploadXorb, UploadShard, Plan, Fetch, Abandon, HideFile, DeleteShard, DeleteXorb, SetExpiration, FileSize, FileData}
+use Rattle.xet_service.specs.declared.step.Act.TheVariants.{UploadXorb, UploadShard, Plan, Fetch, Abandon, HideFile, DeleteShard, DeleteXorb, SetExpiration, SetMaxRanges, FileSize, FileData, SetDedupExpiration, DedupQuery, RemoveDedup, ListXorbs, ListShards, ListFiles, CheckIntegrity, CheckReachable, CheckReadable, InsertRandomXorb}
 use Rattle.xet_service.specs.declared.step.PlanVersion.{PlanVersion}
-use Rattle.xet_service.specs.declared.step.PlanVersion.TheVariants.{V1}
 use Rattle.xet_service.specs.declared.reply.PlannedLink.{PlannedLink}
 use Rattle.xet_service.specs.declared.reply.CacheNote.{CacheNote}
 use Rattle.xet_service.specs.declared.reply.Reply.{Reply}
-use Rattle.xet_service.specs.declared.reply.Reply.TheVariants.{Uploaded, ShardTaken, NoPlan, Done, Planned, Fetched, Finished, Size, Data, Refused}
+use Rattle.xet_service.specs.declared.reply.Reply.TheVariants.{Uploaded, ShardTaken, NoPlan, Done, Planned, Fetched, Finished, NoShard, ShardBytes, Size, Data, Refused, Hashes, Files, Random}
 use Rattle.xet_service.specs.declared.read.OpenRead.{OpenRead}
 use Rattle.xet_service.specs.declared.reader.link.ReadLink.{ReadLink}
-use Rattle.xet_service.specs.Bodies.{stored_body}
-use Rattle.xet_service.specs.Reading.{Reading, left_link, only_range, count_left, take_link, IsOne, BringsPlain, Brings, BringsTo, Accepts, bytes_read}
+use Rattle.xet_service.specs.Bodies.{Body, type_text, SendsStored}
+use Rattle.xet_service.specs.Links.{answer_of}
+use Rattle.xet_service.specs.Reading.{Reading, left_link, count_left, take_link, BringsTo, Accepts, bytes_read}
 use Rattle.xet_service.specs.ReadingPlans.{can_open, reading_of}
 use Rattle.xet_service.specs.World.{State, Reads}
-use Rattle.xet_service.specs.Steps.{Outcome, ReadsOutcome, refuses, keeps_reads, no_note, used_up, read_of, opened, open_links, plan_step, fetch_done, fetch_taken, with_reader, FetchesBody, FetchesRange, FetchesIf, FetchesLink, FetchesRead, is_expired, abandon_read, map_ok, asks, was_done, Commands, PlansBy, Acts}
+use Rattle.xet_service.specs.Steps.{Outcome, ReadsOutcome, refuses, keeps_reads, no_note, used_up, read_of, opened, open_links, plan_step, fetch_done, fetch_taken, with_reader, asked_bytes, FetchesBody, FetchesIf, FetchesLink, FetchesRead, abandon_read, map_ok, asks, was_done, Commands, PlansBy, Acts, shard_reply}
 use Rattle.xet_service.specs.Runs.{World, Event, IsStep, Chain, outcome_of, fixed_after, with_fixed}
 use Rattle.xet_service.specs.Validity.{AgreesWith, IsAgreed, NoneOpen}
 use Rattle.xet_service.specs.Headline.{Finishes}
@@ -43,13 +44,14 @@ use Rattle.xet_service.proofs.Left.{by_put, by_gone}
 use Rattle.xet_service.proofs.Planned.{answered_links, planned_empty}
 use Rattle.xet_service.proofs.Causing.{Reached, Says, plan_says}
 use Rattle.xet_service.proofs.Keeping.{reply_is}
-use Rattle.xet_service.proofs.Goods.{GoodRead, GoodLink, IsGoodAt, GoodAt, Goods, cut_chunks}
+use Rattle.xet_service.proofs.Goods.{GoodRead, GoodLink, IsGoodAt, GoodAt, Goods, all_chunks}
+use Rattle.xet_service.proofs.PlanRuns.{same_terms, same_offset}
 use Rattle.xet_service.proofs.Taken.{got_is, fetched_good, fetched_last}
 
 -- What the read of a plan is: it is good, and it is to give the file's bytes.
 pub record GoodFacts : Type 0 where
-  pub planned_good : (store : StoreModel) (segments : List Segment) (range : Option (Range ℕ _F)) (clip : Interval) (plan : PlanModel) (at : ℕ) (m : Content) → AgreesWith m store → IsSound store → Serves (known_of store) segments range clip plan
-      → 0 < length (answered_links at plan) → GoodRead m (bytes_within (content_of store) clip segments) (reading_of (second_of (first_of at plan)) range)
+  pub planned_good : (version : PlanVersion) (max : ℕ) (store : StoreModel) (segments : List Segment) (range : Option (Range ℕ _F)) (clip : Interval) (plan : PlanModel) (at : ℕ) (m : Content) → AgreesWith m store → IsSound store → Serves (known_of store) segments range clip plan
+      → 0 < length (answered_links version max at plan) → GoodRead m (bytes_within (content_of store) clip segments) (reading_of (answer_of version max at plan) range)
 
 -- ---- reads that stay good
 
@@ -78,6 +80,17 @@ fixed_below w (HideFile file) n lt = refl
 fixed_below w (DeleteShard shard) n lt = refl
 fixed_below w (DeleteXorb xorb) n lt = refl
 fixed_below w (SetExpiration millis) n lt = refl
+fixed_below w (SetDedupExpiration millis) n lt = refl
+fixed_below w (DedupQuery chunk) n lt = refl
+fixed_below w (SetMaxRanges max) n lt = refl
+fixed_below w (RemoveDedup shard) n lt = refl
+fixed_below w ListXorbs n lt = refl
+fixed_below w ListShards n lt = refl
+fixed_below w ListFiles n lt = refl
+fixed_below w CheckIntegrity n lt = refl
+fixed_below w CheckReachable n lt = refl
+fixed_below w CheckReadable n lt = refl
+fixed_below w (InsertRandomXorb seed count size) n lt = refl
 fixed_below w (FileSize file) n lt = refl
 fixed_below w (FileData file range) n lt = refl
 
@@ -165,7 +178,13 @@ module _ (facts : GoodFacts) (m : Content) (w : World) (version : PlanVersion) (
   more : (rs : Reads) → new.state.reads ≡ rs → ((n : ℕ) → GoodAt m new n (get rs n)) → Goods m new
   more rs reads g n = subst (λ (qs : Reads). GoodAt m new n (get qs n)) (sym reads) (g n)
 
-  empty_steps : (plan : PlanModel) → Reached s.store file range plan → answered_links at plan ≡ [] → Ends (Ok (Finished s.next [] 0 no_note), record s { next = s.next + 1 })
+  abbrev answer : PlanModel → SecondPlan
+  answer plan = answer_of version s.store.max_ranges at plan
+
+  abbrev links_at : PlanModel → List PlannedLink
+  links_at plan = answered_links version s.store.max_ranges at plan
+
+  empty_steps : (plan : PlanModel) → Reached s.store file range plan → links_at plan ≡ [] → Ends (Ok (Finished s.next [] 0 no_note), record s { next = s.next + 1 })
   empty_steps plan f none h =
       let same : record s { next = s.next + 1 } ≡ new.state = ap (λ (o : Outcome). o.1) h in
       let answer = reply_is reply (Finished s.next [] 0 no_note) (sym (ap (λ (o : Outcome). o.0) h)) in
@@ -176,47 +195,47 @@ module _ (facts : GoodFacts) (m : Content) (w : World) (version : PlanVersion) (
             let k : Finished s.next [] 0 no_note ≡ Finished n b wire note = sym answer ∙ g in
             let number : s.next ≡ n = cc in
             let bytes : [] ≡ b = cc in
-            sym bytes ∙ sym (fixed_next plan f ∙ planned_empty f.serves.planned at none (content_of s.store)) ∙ ap new.fixed number;
+            sym bytes ∙ sym (fixed_next plan f ∙ planned_empty version s.store.max_ranges at f.serves.planned none (content_of s.store)) ∙ ap new.fixed number;
       }
 
-  open_steps : (plan : PlanModel) (l : PlannedLink) (ls : List PlannedLink) → Reached s.store file range plan → answered_links at plan ≡ l ∷ ls
-      → Ends (Ok (Planned s.next V1 plan.offset_into_first_range plan.terms (l ∷ ls)), opened s (read_of (second_of (first_of at plan)) range at))
+  open_steps : (plan : PlanModel) (l : PlannedLink) (ls : List PlannedLink) → Reached s.store file range plan → links_at plan ≡ l ∷ ls
+      → Ends (Ok (Planned s.next version (answer plan).offset_into_first_range (answer plan).terms (l ∷ ls)), opened s (read_of (answer plan) range at))
   open_steps plan l ls f links h =
-      let read : OpenRead = read_of (second_of (first_of at plan)) range at in
+      let read : OpenRead = read_of (answer plan) range at in
       let same : opened s read ≡ new.state = ap (λ (o : Outcome). o.1) h in
       let next : s.next + 1 ≡ new.state.next = ap (λ (t : State). t.next) same in
       let store : IsSound s.store → IsSound new.state.store = λ x. subst IsSound (ap (λ (t : State). t.store) same) x in
       let old = good_still m w (Plan version file range) reply new good fixes (omega (arith, next)) store in
       let fresh : IsGoodAt m new s.next read = record {
         given = omega (arith, next);
-        read = subst (λ (b : List ℕ). GoodRead m b read.reader) (sym (fixed_next plan f)) (facts.planned_good s.store f.segments range f.clip plan at m agree sound f.serves (some_list (answered_links at plan) l ls links));
+        read = subst (λ (b : List ℕ). GoodRead m b read.reader) (sym (fixed_next plan f)) (facts.planned_good version s.store.max_ranges s.store f.segments range f.clip plan at m agree sound f.serves (some_list (links_at plan) l ls links));
         sound = store sound;
       } in
       record {
         good = more (insert s.reads s.next read) (sym (ap (λ (t : State). t.reads) same)) (λ n.
             by_put (GoodAt m new n) s.reads s.next read n (λ e. subst (λ (k : ℕ). IsGoodAt m new k read) (sym e) fresh) (λ apart. old n));
-        finished = λ n b wire note g. absurd (let k : Planned s.next V1 plan.offset_into_first_range plan.terms (l ∷ ls) ≡ Finished n b wire note = sym (reply_is reply (Planned s.next V1 plan.offset_into_first_range plan.terms (l ∷ ls)) (sym (ap (λ (o : Outcome). o.0) h))) ∙ g in cc);
+        finished = λ n b wire note g. absurd (let k : Planned s.next version (answer plan).offset_into_first_range (answer plan).terms (l ∷ ls) ≡ Finished n b wire note = sym (reply_is reply (Planned s.next version (answer plan).offset_into_first_range (answer plan).terms (l ∷ ls)) (sym (ap (λ (o : Outcome). o.0) h))) ∙ g in cc);
       }
 
-  links_steps : (plan : PlanModel) (ls : List PlannedLink) → Reached s.store file range plan → answered_links at plan ≡ ls → Ends (open_links s (second_of (first_of at plan)) range at ls)
+  links_steps : (plan : PlanModel) (ls : List PlannedLink) → Reached s.store file range plan → links_at plan ≡ ls → Ends (open_links s version (answer plan) range at ls)
   links_steps plan [] f is = empty_steps plan f is
   links_steps plan (l ∷ ls) f is = open_steps plan l ls f is
 
-  opened_steps : (plan : PlanModel) → Reached s.store file range plan → (b c : Bool) → Ends (cond b (refuses s InvalidArguments) (cond c (open_links s (second_of (first_of at plan)) range at (answered_links at plan)) (refuses s InvalidArguments)))
+  opened_steps : (plan : PlanModel) → Reached s.store file range plan → (b c : Bool) → Ends (cond b (refuses s InvalidArguments) (cond c (open_links s version (answer plan) range at (links_at plan)) (refuses s InvalidArguments)))
   opened_steps plan f true c = refused InvalidArguments
-  opened_steps plan f false true = links_steps plan (answered_links at plan) f refl
+  opened_steps plan f false true = links_steps plan (links_at plan) f refl
   opened_steps plan f false false = refused InvalidArguments
 
-  answer_steps : (r : Result (Option PlanModel) Refusal) → Says s at version file range r → Ends (plan_step s range at (response_of at r))
+  answer_steps : (r : Result (Option PlanModel) Refusal) → Says s at version file range r → Ends (plan_step s version range at (response_by answer r))
   answer_steps (Err why) f h = refused why h
   answer_steps (Ok None) f h = same_state m w (Plan version file range) reply new good fixes (sym (ap (λ (o : Outcome). o.1) h)) (other_no_finish reply NoPlan (λ n b wire note e. absurd cc) (sym (ap (λ (o : Outcome). o.0) h)))
-  answer_steps (Ok (Some plan)) f h = opened_steps plan f (used_up s.next) (can_open (second_of (first_of at plan))) h
+  answer_steps (Ok (Some plan)) f h = opened_steps plan f (used_up s.next) (can_open (answer plan)) h
 
 pub plan_steps : GoodFacts → (m : Content) (w : World) (version : PlanVersion) (file : List ℕ) (range : Option (Range ℕ _F)) (at : ℕ) (reply : Reply) (new : World) → Goods m w → AgreesWith m w.state.store → new.fixed ≡ fixed_after w (Plan version file range)
-    → PlansBy w.state file range at (outcome_of reply) new.state → Steps m reply new
+    → PlansBy w.state version file range at (outcome_of reply) new.state → Steps m reply new
 plan_steps facts m w version file range at reply new good agree fixes h =
     answer_steps facts m w version file range at reply new good agree h.responds.sound fixes h.responds.answer (plan_says w.state at version file range h.responds.answer h.responds.plans)
-    (ap (plan_step w.state range at) (sym h.responds.response) ∙ h.step)
+    (ap (plan_step w.state version range at) (sym h.responds.response) ∙ h.step)
 
 -- ---- fetches
 
@@ -233,14 +252,14 @@ module _ (m : Content) (w : World) (read link at : ℕ) (reply : Reply) (new : W
   refused_fetch : (why : Refusal) → EndsReads (keeps_reads w.state.reads why)
   refused_fetch why h = still m w (Fetch read link) reply new good fixes (sym (ap (λ (o : ReadsOutcome). o.1) h)) next_is still_sound (err_no_finish reply why (sym (ap (λ (o : ReadsOutcome). o.0) h)))
 
-  module _ (r : OpenRead) (l : ReadLink) (range : XorbRangeDescriptor) (body : List ℕ) (open_it : get w.state.reads read ≡ Some r) (left : left_link r.reader.links link ≡ Some l) (only : only_range l.ranges ≡ Some range) (brought : stored_body w.state.store l.hash (file_range_of range.bytes) ≡ Ok body) where
+  module _ (r : OpenRead) (l : ReadLink) (body : Body) (open_it : get w.state.reads read ≡ Some r) (left : left_link r.reader.links link ≡ Some l) (sent : SendsStored w.state.store l.hash (asked_bytes l.ranges) (Ok body)) where
     here : IsGoodAt m w read r
     here = subst (GoodAt m w read) open_it (good read)
 
     same_fixed : new.fixed read ≡ w.fixed read
     same_fixed = ap (λ (f : ℕ → List ℕ). f read) fixes
 
-    module _ (got : List Chunks) (is : (g : GoodLink m l) → got ≡ cut_chunks g.all g.range ∷ []) where
+    module _ (got : List Chunks) (is : (g : GoodLink m l) → got ≡ all_chunks g.all l.ranges) where
       abbrev after : Reading
       after = take_link r.reader link got
 
@@ -270,28 +289,20 @@ module _ (m : Content) (w : World) (read link at : ℕ) (reply : Reply) (new : W
             finished = λ n b wire' note k. absurd (let e : Fetched read link (suc left_over) wire no_note ≡ Finished n b wire' note = sym answer ∙ k in cc);
           }
 
-    spelled : (got : List Chunks) → Brings IsOne l [] body (Ok got) → (g : GoodLink m l) → got ≡ cut_chunks g.all g.range ∷ []
-    spelled got (inl h) g = absurd (let e : ◌≡◌ {A = Result (List Chunks) Refusal} (Ok got) (Err Other) = h.1 in cc)
-    spelled got (inr h) g = got_is m w.state.store l g range body got agree only brought (subst (λ (o : Option XorbRangeDescriptor). BringsPlain IsOne o l.held body (Ok got)) only h.1)
-
-    taken_steps : (answer : Result (Unit {0}) Refusal) (next : Reading) → Accepts r.reader link [] body answer next → EndsReads (fetch_taken w.state.reads read link (length body) r answer next)
+    taken_steps : (answer : Result (Unit {0}) Refusal) (next : Reading) → Accepts r.reader link (type_text body.content_type) body.bytes answer next → EndsReads (fetch_taken w.state.reads read link (length body.bytes) r answer next)
     taken_steps (Err why) next a = refused_fetch why
     taken_steps (Ok u) next a =
-        subst (λ (x : Reading). EndsReads (fetch_done w.state.reads read link (length body) (with_reader r x) (count_left x.links))) (sym a.1.1)
-        (done_steps a.0 (spelled a.0 (subst (λ (o : Option ReadLink). BringsTo IsOne o [] body (Ok a.0)) left a.1.0)) (length body) (count_left (take_link r.reader link a.0).links) refl)
+        subst (λ (x : Reading). EndsReads (fetch_done w.state.reads read link (length body.bytes) (with_reader r x) (count_left x.links))) (sym a.1.1)
+        (done_steps a.0 (λ g. got_is m w.state.store l g body a.0 agree sent (subst (λ (o : Option ReadLink). BringsTo o (type_text body.content_type) body.bytes (Ok a.0)) left a.1.0)) (length body.bytes) (count_left (take_link r.reader link a.0).links) refl)
 
-  body_steps : (r : OpenRead) (l : ReadLink) (range : XorbRangeDescriptor) (a : Result (List ℕ) Refusal) → get w.state.reads read ≡ Some r → left_link r.reader.links link ≡ Some l → only_range l.ranges ≡ Some range → stored_body w.state.store l.hash (file_range_of range.bytes) ≡ a
+  sent_steps : (r : OpenRead) (l : ReadLink) (a : Result Body Refusal) → get w.state.reads read ≡ Some r → left_link r.reader.links link ≡ Some l → SendsStored w.state.store l.hash (asked_bytes l.ranges) a
       → FetchesBody w.state.reads read link r a (outcome_of reply) new.state.reads → Steps m reply new
-  body_steps r l range (Err why) open_it left only brought h = refused_fetch why h
-  body_steps r l range (Ok body) open_it left only brought h = taken_steps r l range body open_it left only brought h.answer h.after h.accepts h.step
-
-  range_steps : (r : OpenRead) (l : ReadLink) (o : Option XorbRangeDescriptor) → get w.state.reads read ≡ Some r → left_link r.reader.links link ≡ Some l → only_range l.ranges ≡ o → FetchesRange w.state.store w.state.reads read link r l.hash o (outcome_of reply) new.state.reads → Steps m reply new
-  range_steps r l None open_it left only h = refused_fetch Other h
-  range_steps r l (Some range) open_it left only h = body_steps r l range (stored_body w.state.store l.hash (file_range_of range.bytes)) open_it left only refl h
+  sent_steps r l (Err why) open_it left sent h = refused_fetch why h
+  sent_steps r l (Ok body) open_it left sent h = taken_steps r l body open_it left sent h.answer h.after h.accepts h.step
 
   if_steps : (r : OpenRead) (l : ReadLink) (b : Bool) → get w.state.reads read ≡ Some r → left_link r.reader.links link ≡ Some l → FetchesIf w.state.store w.state.reads read link r l b (outcome_of reply) new.state.reads → Steps m reply new
   if_steps r l true open_it left h = refused_fetch PresignedUrlExpirationError h
-  if_steps r l false open_it left h = range_steps r l (only_range l.ranges) open_it left refl h
+  if_steps r l false open_it left h = sent_steps r l h.body open_it left h.sent h.brings
 
   link_steps : (r : OpenRead) (o : Option ReadLink) → get w.state.reads read ≡ Some r → left_link r.reader.links link ≡ o → FetchesLink w.state.store w.state.reads read link at r o (outcome_of reply) new.state.reads → Steps m reply new
   link_steps r None open_it left h = refused_fetch InvalidArguments h
@@ -315,6 +326,11 @@ module _ (m : Content) (w : World) (read : ℕ) (reply : Reply) (new : World) (g
         finished = λ n b wire note k. absurd (other_no_finish reply Done (λ i c v q e. absurd cc) (sym (ap (λ (o : Outcome). o.0) h)) n b wire note k);
       }
 
+-- a query finishes no read
+dedup_finishes : (o : Option (List ℕ)) (n : ℕ) (b : List ℕ) (wire : ℕ) (note : CacheNote) → shard_reply o ≡ Finished n b wire note → ⊥
+dedup_finishes None n b wire note e = absurd cc
+dedup_finishes (Some bytes) n b wire note e = absurd cc
+
 -- ---- all acts
 
 module _ (facts : GoodFacts) (m : Content) where
@@ -327,13 +343,28 @@ module _ (facts : GoodFacts) (m : Content) where
   act_steps w at reply new good agree (Fetch read link) fixes h = read_steps m w read link at reply new good agree fixes h.rest (get w.state.reads read) refl h.reads
   act_steps w at reply new good agree (Abandon read) fixes h = abandon_steps m w read reply new good fixes (get w.state.reads read) h
   act_steps w at reply new good agree (HideFile file) fixes h =
-      command_steps (Is (hide_file w.state.store file)) was_done m w (HideFile file) reply new (λ x n b wire note e. absurd cc) good fixes (is_sound (hide_file w.state.store file) w.state.store (same_sound w.state.store (hide_file w.state.store file).1 refl refl)) h
+      command_steps (Is (hide_file w.state.store file)) was_done m w (HideFile file) reply new (λ x n b wire note e. absurd cc) good fixes (is_sound (hide_file w.state.store file) w.state.store (same_sound w.state.store (hide_file w.state.store file).1 refl refl refl)) h
   act_steps w at reply new good agree (DeleteShard shard) fixes h =
       command_steps (Is (delete_shard w.state.store shard)) was_done m w (DeleteShard shard) reply new (λ x n b wire note e. absurd cc) good fixes (is_sound (delete_shard w.state.store shard) w.state.store (λ s. subst IsSound (delete_leaves w.state.store shard) (without_shard_sound w.state.store shard s))) h
   act_steps w at reply new good agree (DeleteXorb xorb) fixes h =
       command_steps (Is (delete_xorb w.state.store xorb)) was_done m w (DeleteXorb xorb) reply new (λ x n b wire note e. absurd cc) good fixes (is_sound (delete_xorb w.state.store xorb) w.state.store (fewer_sound w.state.store xorb)) h
   act_steps w at reply new good agree (SetExpiration millis) fixes h =
-      command_steps (Is (set_expiration w.state.store millis)) was_done m w (SetExpiration millis) reply new (λ x n b wire note e. absurd cc) good fixes (is_sound (set_expiration w.state.store millis) w.state.store (same_sound w.state.store (set_expiration w.state.store millis).1 refl refl)) h
+      command_steps (Is (set_expiration w.state.store millis)) was_done m w (SetExpiration millis) reply new (λ x n b wire note e. absurd cc) good fixes (is_sound (set_expiration w.state.store millis) w.state.store (same_sound w.state.store (set_expiration w.state.store millis).1 refl refl refl)) h
+  act_steps w at reply new good agree (SetMaxRanges max) fixes h =
+      command_steps (Is (set_max_ranges w.state.store max)) was_done m w (SetMaxRanges max) reply new (λ x n b wire note e. absurd cc) good fixes (is_sound (set_max_ranges w.state.store max) w.state.store (set_max_sound w.state.store max)) h
+  act_steps w at reply new good agree (SetDedupExpiration millis) fixes h =
+      command_steps (Is (set_dedup_expiration w.state.store millis)) was_done m w (SetDedupExpiration millis) reply new (λ x n b wire note e. absurd cc) good fixes (is_sound (set_dedup_expiration w.state.store millis) w.state.store (same_sound w.state.store (set_dedup_expiration w.state.store millis).1 refl refl refl)) h
+  act_steps w at reply new good agree (DedupQuery chunk) fixes h = question_steps shard_reply (Ok (dedup_answer w.state.store chunk at)) m w (DedupQuery chunk) reply new dedup_finishes good fixes h
+  act_steps w at reply new good agree (RemoveDedup shard) fixes h =
+      command_steps (Is (drop_dedup w.state.store shard)) was_done m w (RemoveDedup shard) reply new (λ x n b wire note e. absurd cc) good fixes (is_sound (drop_dedup w.state.store shard) w.state.store (same_sound w.state.store (drop_dedup w.state.store shard).1 refl refl refl)) h
+  act_steps w at reply new good agree ListXorbs fixes h = question_steps Hashes (Ok (xorb_hashes w.state.store)) m w ListXorbs reply new (λ x n b wire note e. absurd cc) good fixes h
+  act_steps w at reply new good agree ListShards fixes h = question_steps Hashes (Ok (shard_hashes w.state.store)) m w ListShards reply new (λ x n b wire note e. absurd cc) good fixes h
+  act_steps w at reply new good agree ListFiles fixes h = question_steps Files (Ok (file_entries w.state.store)) m w ListFiles reply new (λ x n b wire note e. absurd cc) good fixes h
+  act_steps w at reply new good agree CheckIntegrity fixes h = question_steps was_done (checked (integrity w.state.store)) m w CheckIntegrity reply new (λ x n b wire note e. absurd cc) good fixes h
+  act_steps w at reply new good agree CheckReachable fixes h = question_steps was_done (checked (reachable w.state.store)) m w CheckReachable reply new (λ x n b wire note e. absurd cc) good fixes h
+  act_steps w at reply new good agree CheckReadable fixes h = question_steps was_done (checked (readable w.state.store)) m w CheckReadable reply new (λ x n b wire note e. absurd cc) good fixes h
+  act_steps w at reply new good agree (InsertRandomXorb seed count size) fixes h =
+      command_steps (InsertsSeeded w.state.store seed count size) Random m w (InsertRandomXorb seed count size) reply new (λ x n b wire note e. absurd cc) good fixes (λ a k d s. inserts_sound w.state.store k seed count size a d s) h
   act_steps w at reply new good agree (FileSize file) fixes h = question_steps Size (file_size w.state.store file) m w (FileSize file) reply new (λ x n b wire note e. absurd cc) good fixes h
   act_steps w at reply new good agree (FileData file range) fixes h = question_steps Data (file_data w.state.store file range) m w (FileData file range) reply new (λ x n b wire note e. absurd cc) good fixes h
 

@@ -1,25 +1,25 @@
 -- A read that is followed through a run.
 use Rattle.std.proofs.Common.{◌≡◌, ℕ, zero, suc, ◌<◌, true, false, Bool, cond, List, [], ◌∷◌, length, Option, Some, None, Result, Ok, Err, sym, ap, subst, arith}
 use Rattle.std.specs.FinMap.{get, insert, remove}
-use Rattle.xet_types.specs.Ranges.{file_range_of}
-use Rattle.xet_types.specs.Records.{FirstPlan, SecondPlan, second_of}
+use Rattle.xet_types.specs.Records.{SecondPlan}
 use Rattle.xet_types.specs.declared.error.Refusal.{Refusal}
-use Rattle.xet_types.specs.declared.error.Refusal.TheVariants.{InvalidArguments, PresignedUrlExpirationError, Other}
+use Rattle.xet_types.specs.declared.error.Refusal.TheVariants.{InvalidArguments, PresignedUrlExpirationError}
 use Rattle.xet_types.specs.declared.range.Range.{Range}
 use Rattle.xet_types.specs.declared.range._F.{_F}
-use Rattle.xet_types.specs.declared.record.XorbRangeDescriptor.{XorbRangeDescriptor}
+use Rattle.xet_store.specs.TermData.{is_expired}
+use Rattle.xet_service.specs.declared.step.PlanVersion.{PlanVersion}
 use Rattle.xet_service.specs.declared.step.Act.{Act}
-use Rattle.xet_service.specs.declared.step.Act.TheVariants.{UploadXorb, UploadShard, Plan, Fetch, Abandon, HideFile, DeleteShard, DeleteXorb, SetExpiration, FileSize, FileData}
+use Rattle.xet_service.specs.declared.step.Act.TheVariants.{UploadXorb, UploadShard, Plan, Fetch, Abandon, HideFile, DeleteShard, DeleteXorb, SetExpiration, SetMaxRanges, FileSize, FileData, SetDedupExpiration, DedupQuery, RemoveDedup, ListXorbs, ListShards, ListFiles, CheckIntegrity, CheckReachable, CheckReadable, InsertRandomXorb}
 use Rattle.xet_service.specs.declared.reply.PlannedLink.{PlannedLink}
 use Rattle.xet_service.specs.declared.reply.Reply.{Reply}
 use Rattle.xet_service.specs.declared.read.OpenRead.{OpenRead}
 use Rattle.xet_service.specs.declared.reader.link.ReadLink.{ReadLink}
 use Rattle.xet_service.specs.Links.{planned_links}
-use Rattle.xet_service.specs.Bodies.{stored_body}
-use Rattle.xet_service.specs.Reading.{Reading, left_link, count_left, only_range}
+use Rattle.xet_service.specs.Bodies.{Body}
+use Rattle.xet_service.specs.Reading.{Reading, left_link, count_left}
 use Rattle.xet_service.specs.ReadingPlans.{can_open}
 use Rattle.xet_service.specs.World.{State, Reads}
-use Rattle.xet_service.specs.Steps.{Outcome, ReadsOutcome, refuses, keeps_reads, used_up, read_of, open_links, plan_step, fetch_done, fetch_taken, with_reader, FetchesBody, FetchesRange, FetchesIf, FetchesLink, FetchesRead, is_expired, abandon_read, Acts}
+use Rattle.xet_service.specs.Steps.{Outcome, ReadsOutcome, refuses, keeps_reads, used_up, read_of, open_links, plan_step, fetch_done, fetch_taken, with_reader, FetchesBody, FetchesIf, FetchesLink, FetchesRead, abandon_read, Acts}
 use Rattle.xet_service.proofs.Left.{by_put, by_gone}
 
 abbrev pub NotNames : ℕ → Act → Type 0
@@ -43,18 +43,18 @@ module _ (old : State) (at : ℕ) (result : Result Reply Refusal) (new : State) 
   by_reads : (o : ReadsOutcome) → IsIn o.1 → o ≡ (result, new.reads) → IsIn new.reads
   by_reads o l h = subst IsIn (ap (λ (p : ReadsOutcome). p.1) h) l
 
-  links_leave : (plan : SecondPlan) (range : Option (Range ℕ _F)) (ls : List PlannedLink) → IsIn (open_links old plan range at ls).1.reads
-  links_leave plan range [] = found
-  links_leave plan range (l ∷ ls) = put_other old.next (read_of plan range at) (λ e. absurd (omega (arith, given, e)))
+  links_leave : (version : PlanVersion) (plan : SecondPlan) (range : Option (Range ℕ _F)) (ls : List PlannedLink) → IsIn (open_links old version plan range at ls).1.reads
+  links_leave version plan range [] = found
+  links_leave version plan range (l ∷ ls) = put_other old.next (read_of plan range at) (λ e. absurd (omega (arith, given, e)))
 
-  plan_leaves : (range : Option (Range ℕ _F)) (r : Result (Option FirstPlan) Refusal) → IsIn (plan_step old range at r).1.reads
-  plan_leaves range (Err why) = found
-  plan_leaves range (Ok None) = found
-  plan_leaves range (Ok (Some plan)) = of (used_up old.next) (can_open (second_of plan))
+  plan_leaves : (version : PlanVersion) (range : Option (Range ℕ _F)) (r : Result (Option SecondPlan) Refusal) → IsIn (plan_step old version range at r).1.reads
+  plan_leaves version range (Err why) = found
+  plan_leaves version range (Ok None) = found
+  plan_leaves version range (Ok (Some plan)) = of (used_up old.next) (can_open plan)
     where
-      of : (b c : Bool) → IsIn (cond b (refuses old InvalidArguments) (cond c (open_links old (second_of plan) range at (planned_links (second_of plan))) (refuses old InvalidArguments))).1.reads
+      of : (b c : Bool) → IsIn (cond b (refuses old InvalidArguments) (cond c (open_links old version plan range at (planned_links plan)) (refuses old InvalidArguments))).1.reads
       of true c = found
-      of false true = links_leave (second_of plan) range (planned_links (second_of plan))
+      of false true = links_leave version plan range (planned_links plan)
       of false false = found
 
   module _ (read link : ℕ) (apart : read ≡ n → ⊥) where
@@ -66,17 +66,13 @@ module _ (old : State) (at : ℕ) (result : Result Reply Refusal) (new : State) 
     taken_leaves wire r (Err why) after = found
     taken_leaves wire r (Ok u) after = done_leaves wire (with_reader r after) (count_left after.links)
 
-    body_leaves : (r : OpenRead) (a : Result (List ℕ) Refusal) → FetchesBody old.reads read link r a result new.reads → IsIn new.reads
+    body_leaves : (r : OpenRead) (a : Result Body Refusal) → FetchesBody old.reads read link r a result new.reads → IsIn new.reads
     body_leaves r (Err why) h = by_reads (keeps_reads old.reads why) found h
-    body_leaves r (Ok body) h = by_reads _ (taken_leaves (length body) r h.answer h.after) h.step
-
-    range_leaves : (r : OpenRead) (hash : List ℕ) (o : Option XorbRangeDescriptor) → FetchesRange old.store old.reads read link r hash o result new.reads → IsIn new.reads
-    range_leaves r hash None h = by_reads (keeps_reads old.reads Other) found h
-    range_leaves r hash (Some range) h = body_leaves r (stored_body old.store hash (file_range_of range.bytes)) h
+    body_leaves r (Ok body) h = by_reads _ (taken_leaves (length body.bytes) r h.answer h.after) h.step
 
     if_leaves : (r : OpenRead) (l : ReadLink) (b : Bool) → FetchesIf old.store old.reads read link r l b result new.reads → IsIn new.reads
     if_leaves r l true h = by_reads (keeps_reads old.reads PresignedUrlExpirationError) found h
-    if_leaves r l false h = range_leaves r l.hash (only_range l.ranges) h
+    if_leaves r l false h = body_leaves r h.body h.brings
 
     link_leaves : (r : OpenRead) (o : Option ReadLink) → FetchesLink old.store old.reads read link at r o result new.reads → IsIn new.reads
     link_leaves r None h = by_reads (keeps_reads old.reads InvalidArguments) found h
@@ -97,12 +93,23 @@ module _ (old : State) (at : ℕ) (result : Result Reply Refusal) (new : State) 
   pub stays : (act : Act) → NotNames n act → Acts old at act result new → get new.reads n ≡ Some x
   stays (UploadXorb hash content) other h = same_reads h.rest
   stays (UploadShard content) other h = same_reads h.rest
-  stays (Plan version file range) other h = by_outcome _ (plan_leaves range h.answer) h.step
+  stays (Plan version file range) other h = by_outcome _ (plan_leaves version range h.answer) h.step
   stays (Fetch read link) other h = read_leaves read link other (get old.reads read) h.reads
   stays (Abandon read) other h = by_outcome _ (abandon_leaves read other (get old.reads read)) h
   stays (HideFile file) other h = same_reads h.rest
   stays (DeleteShard shard) other h = same_reads h.rest
   stays (DeleteXorb xorb) other h = same_reads h.rest
   stays (SetExpiration millis) other h = same_reads h.rest
+  stays (SetDedupExpiration millis) other h = same_reads h.rest
+  stays (DedupQuery chunk) other h = by_outcome _ found h
+  stays (SetMaxRanges max) other h = same_reads h.rest
+  stays (RemoveDedup shard) other h = same_reads h.rest
+  stays ListXorbs other h = by_outcome _ found h
+  stays ListShards other h = by_outcome _ found h
+  stays ListFiles other h = by_outcome _ found h
+  stays CheckIntegrity other h = by_outcome _ found h
+  stays CheckReachable other h = by_outcome _ found h
+  stays CheckReadable other h = by_outcome _ found h
+  stays (InsertRandomXorb seed count size) other h = same_reads h.rest
   stays (FileSize file) other h = by_outcome _ found h
   stays (FileData file range) other h = by_outcome _ found h

@@ -1,5 +1,5 @@
 -- What an open read keeps, where one map gives each xorb that is met.
-use Rattle.std.specs.Prelude.{◌≡◌, ℕ, ◌-◌, ◌<◌, ◌≤◌, ◌⊎◌, true, List, [], ◌∷◌, drop, length, map, Option, Some, None, slice_get, slice_range}
+use Rattle.std.specs.Prelude.{◌≡◌, ℕ, ◌-◌, ◌<◌, ◌≤◌, ◌⊎◌, true, List, drop, length, map, Option, Some, None, slice_get, slice_range}
 use Rattle.std.specs.List.{flat_map, AllByRecursion}
 use Rattle.std.specs.FinMap.{get}
 use Rattle.xet_types.specs.declared.record.XorbRangeDescriptor.{XorbRangeDescriptor}
@@ -13,35 +13,42 @@ use Rattle.xet_service.specs.declared.read.OpenRead.{OpenRead}
 use Rattle.xet_service.specs.declared.reader.held.HeldTerm.{HeldTerm}
 use Rattle.xet_service.specs.declared.reader.link.ReadLink.{ReadLink}
 use Rattle.xet_service.specs.Reading.{Reading, count_left, have_lengths}
+use Rattle.xet_service.specs.World.{RisesFrom}
 use Rattle.xet_service.specs.Runs.{World}
 
 -- the chunks of a link's range
 abbrev pub cut_chunks : Chunks → XorbRangeDescriptor → Chunks
 cut_chunks all range = slice_range all range.chunks.start range.chunks.end
 
--- The link has one range, of chunks that the map's list has; its bytes are where these lie; the terms that it holds have their
--- chunks' lengths; and what it brought is these chunks.
-pub record GoodLink (m : Content) (l : ReadLink) : Type 0 where
-  pub all : Chunks
-  pub is : m l.hash ≡ Some all
-  pub formed : IsWellFormed all
-  pub range : XorbRangeDescriptor
-  pub only : l.ranges ≡ range ∷ []
+-- the chunks of a link's ranges
+abbrev pub all_chunks : Chunks → List XorbRangeDescriptor → List Chunks
+all_chunks all ranges = map (cut_chunks all) ranges
+
+-- The range is of chunks that the list has, and its bytes are where these lie.
+pub record GoodRange (all : Chunks) (range : XorbRangeDescriptor) : Type 0 where
   pub some : range.chunks.start < range.chunks.end
   pub inside : range.chunks.end ≤ length all
   pub first : range.bytes.start ≡ packed_before (lengths_of all) range.chunks.start
   pub last : range.bytes.end ≡ packed_before (lengths_of all) range.chunks.end - 1
-  pub fit : have_lengths (cut_chunks all range) l.held ≡ true
-  pub brought : (l.got ≡ None) ⊎ (l.got ≡ Some (cut_chunks all range ∷ []))
 
--- the term lies in the one range of a link
+-- The link's ranges are of chunks that the map's list has, and their bytes rise; the terms that it holds have their chunks' lengths; and
+-- what it brought is these chunks.
+pub record GoodLink (m : Content) (l : ReadLink) : Type 0 where
+  pub all : Chunks
+  pub is : m l.hash ≡ Some all
+  pub formed : IsWellFormed all
+  pub each : AllByRecursion (GoodRange all) l.ranges
+  pub rises : RisesFrom 0 l.ranges
+  pub fit : have_lengths (all_chunks all l.ranges) l.held ≡ true
+  pub brought : (l.got ≡ None) ⊎ (l.got ≡ Some (all_chunks all l.ranges))
+
+-- the term lies in a range of a link
 pub record IsHeldIn (links : List ReadLink) (h : HeldTerm) : Type 0 where
   pub link : ReadLink
   pub there : slice_get links h.range.link ≡ Some link
   pub hash : link.hash ≡ h.term.hash
-  pub number : h.range.number ≡ 0
   pub range : XorbRangeDescriptor
-  pub only : link.ranges ≡ range ∷ []
+  pub at : slice_get link.ranges h.range.number ≡ Some range
   pub from : h.range.chunks.start ≡ range.chunks.start
   pub low : range.chunks.start ≤ h.term.range.start
   pub rises : h.term.range.start ≤ h.term.range.end

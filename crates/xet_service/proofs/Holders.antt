@@ -1,15 +1,18 @@
 -- Chunks that runs in order hold, one and all, lie in one of them.
-use Rattle.std.proofs.Common.{◌≡◌, ◌∙◌, ℕ, suc, ◌<◌, ◌≤◌, true, false, Bool, cond, List, [], ◌∷◌, map, Some, None, refl, sym, arith, ◌⊎◌, inl, inr}
+use Rattle.std.proofs.Common.{◌≡◌, ◌∙◌, ℕ, suc, ◌<◌, ◌≤◌, max, true, false, Bool, cond, List, [], ◌∷◌, ◌++◌, map, Some, refl, sym, arith, ◌⊎◌, inl, inr}
 use Rattle.std.specs.Prelude.{is_some}
+use Rattle.std.specs.List.{AllByRecursion}
 use Rattle.std.specs.Cmp.Lexicographic.{bytes_decides}
 use Rattle.std.proofs.lemmas.Bool.{cases_lt, le-leb}
 use Rattle.xet_types.specs.Names.{same_hash}
 use Rattle.xet_types.specs.declared.record.XorbReconstructionTerm.{XorbReconstructionTerm}
+use Rattle.xet_plan.specs.declared.runs.MergedRange.{MergedRange}
+use Rattle.xet_plan.proofs.Order.{before-same}
+use Rattle.xet_store.specs.Responses.{descriptor_of}
 use Rattle.xet_service.specs.declared.reader.held.LinkRange.{LinkRange}
-use Rattle.xet_service.specs.declared.reader.link.ReadLink.{ReadLink}
-use Rattle.xet_service.specs.ReadingPlans.{all_apart, link_range, all_ranges, range_holds, range_of}
-use Rattle.xet_service.proofs.PlanRuns.{Run, InOrder, descriptor_of}
-use Rattle.xet_service.proofs.RunChunks.{RunsHave, later_past}
+use Rattle.xet_service.specs.ReadingPlans.{are_apart, all_apart, link_range, ranges_of, all_ranges, range_holds, range_of}
+use Rattle.xet_service.proofs.PlanRuns.{Run, run, Linked, link_runs, all_runs, fresh_of, Before, InOrder, order_left, order_right, all_left, all_right}
+use Rattle.xet_service.proofs.RunChunks.{RunsHave, IsNonEmpty, later_past}
 
 -- the run has all chunks from a up to b
 abbrev pub HasAll : Run → List ℕ → ℕ → ℕ → Type 0
@@ -40,30 +43,78 @@ one_has_all (r ∷ rs) h a b o l all = elim (all a (omega arith) l) as (λ _. On
 
 -- ---- the links of runs
 
--- the link of a run, which is left
-abbrev pub fresh_of : Run → ReadLink
-fresh_of r = record { hash = r.hash; ranges = descriptor_of r.range ∷ []; held = []; got = None }
+-- a run behind another of one xorb begins past it
+lows : (h : List ℕ) (r : MergedRange) (rs : List MergedRange) → AllByRecursion (Before (run h r)) (map (run h) rs) → r.chunk_range.start < r.chunk_range.end
+    → AllByRecursion (λ (s : Run). max r.chunk_range.start r.chunk_range.end ≤ s.range.chunk_range.start) (map (run h) rs)
+lows h r [] b some = tt
+lows h r (s ∷ rs) b some = (
+  elim b.0 as (λ _. max r.chunk_range.start r.chunk_range.end ≤ s.chunk_range.start) [
+    | inl q ↦ absurd (before-same h h q refl)
+    | inr q ↦ omega (arith, q.1, some)
+  ],
+  lows h r rs b.1 some,
+)
 
-pub apart : (rs : List Run) → all_apart (map fresh_of rs) ≡ true
-apart [] = refl
-apart (r ∷ rs) = rw (le-leb 0 r.range.chunk_range.start (omega arith), apart rs) refl
+link_apart : (h : List ℕ) (from : ℕ) (rs : List MergedRange) → InOrder (map (run h) rs) → AllByRecursion IsNonEmpty (map (run h) rs) → AllByRecursion (λ (s : Run). from ≤ s.range.chunk_range.start) (map (run h) rs) → are_apart from (map descriptor_of rs) ≡ true
+link_apart h from [] o some low = refl
+link_apart h from (r ∷ rs) o some low = rw (le-leb from r.chunk_range.start low.0, link_apart h (max r.chunk_range.start r.chunk_range.end) rs o.1 some.1 (lows h r rs o.0 some.0)) refl
 
-abbrev pub range_at : ℕ → Run → LinkRange
-range_at n r = link_range r.hash n 0 (descriptor_of r.range)
+from_none : (rs : List Run) → AllByRecursion (λ (s : Run). 0 ≤ s.range.chunk_range.start) rs
+from_none [] = tt
+from_none (r ∷ rs) = (omega arith, from_none rs)
+
+pub apart : (ls : List Linked) → InOrder (all_runs ls) → AllByRecursion IsNonEmpty (all_runs ls) → all_apart (map fresh_of ls) ≡ true
+apart [] o some = refl
+apart (l ∷ ls) o some =
+    let here = link_apart l.hash 0 l.runs (order_left (link_runs l) (all_runs ls) o) (all_left IsNonEmpty (link_runs l) (all_runs ls) some) (from_none (link_runs l)) in
+    rw (here, apart ls (order_right (link_runs l) (all_runs ls) o) (all_right IsNonEmpty (link_runs l) (all_runs ls) some)) refl
+
+-- the range of a run of a link, both by number
+abbrev pub range_at : List ℕ → ℕ → ℕ → MergedRange → LinkRange
+range_at h n i r = link_range h n i (descriptor_of r)
 
 -- a range of such a run holds the term
-run_holds : (n : ℕ) (r : Run) (t : XorbReconstructionTerm) → t.range.start ≤ t.range.end → HasAll r t.hash t.range.start t.range.end → range_holds t (range_at n r) ≡ true
-run_holds n r t l p =
-    let same : same_hash r.hash t.hash ≡ true = (bytes_decides r.hash t.hash).1 p.0 in
-    rw (same, le-leb r.range.chunk_range.start t.range.start p.1, le-leb t.range.start t.range.end l, le-leb t.range.end r.range.chunk_range.end p.2) refl
+run_holds : (h : List ℕ) (n i : ℕ) (r : MergedRange) (t : XorbReconstructionTerm) → t.range.start ≤ t.range.end → HasAll (run h r) t.hash t.range.start t.range.end → range_holds t (range_at h n i r) ≡ true
+run_holds h n i r t l p =
+    let same : same_hash h t.hash ≡ true = (bytes_decides h t.hash).1 p.0 in
+    rw (same, le-leb r.chunk_range.start t.range.start p.1, le-leb t.range.start t.range.end l, le-leb t.range.end r.chunk_range.end p.2) refl
+
+one_cases : (xs ys : List Run) (h : List ℕ) (a b : ℕ) → OneHasAll (xs ++ ys) h a b → OneHasAll xs h a b ⊎ OneHasAll ys h a b
+one_cases [] ys h a b p = inr p
+one_cases (x ∷ xs) ys h a b (inl p) = inl (inl p)
+one_cases (x ∷ xs) ys h a b (inr p) = elim (one_cases xs ys h a b p) as (λ _. OneHasAll (x ∷ xs) h a b ⊎ OneHasAll ys h a b) [ inl q ↦ inl (inr q) | inr q ↦ inr q ]
+
+-- a term that some ranges hold is found in more
+left_found : (t : XorbReconstructionTerm) (xs ys : List LinkRange) → is_some (range_of xs t) ≡ true → is_some (range_of (xs ++ ys) t) ≡ true
+left_found t [] ys e = absurd cc
+left_found t (x ∷ xs) ys e = of (range_holds t x) e (λ g. left_found t xs ys g)
+  where
+    of : (b : Bool) → is_some (cond b (Some x) (range_of xs t)) ≡ true → (is_some (range_of xs t) ≡ true → is_some (range_of (xs ++ ys) t) ≡ true) → is_some (cond b (Some x) (range_of (xs ++ ys) t)) ≡ true
+    of true g more = refl
+    of false g more = more g
+
+right_found : (t : XorbReconstructionTerm) (xs ys : List LinkRange) → is_some (range_of ys t) ≡ true → is_some (range_of (xs ++ ys) t) ≡ true
+right_found t [] ys e = e
+right_found t (x ∷ xs) ys e = of (range_holds t x) (right_found t xs ys e)
+  where
+    of : (b : Bool) → is_some (range_of (xs ++ ys) t) ≡ true → is_some (cond b (Some x) (range_of (xs ++ ys) t)) ≡ true
+    of true more = refl
+    of false more = more
+
+link_found : (h : List ℕ) (n i : ℕ) (rs : List MergedRange) (t : XorbReconstructionTerm) → t.range.start ≤ t.range.end → OneHasAll (map (run h) rs) t.hash t.range.start t.range.end → is_some (range_of (ranges_of h n i (map descriptor_of rs)) t) ≡ true
+link_found h n i [] t l p = absurd p
+link_found h n i (r ∷ rs) t l p = of (range_holds t (range_at h n i r)) refl (λ q. link_found h n (suc i) rs t l q) p
+  where
+    of : (b : Bool) → range_holds t (range_at h n i r) ≡ b → (OneHasAll (map (run h) rs) t.hash t.range.start t.range.end → is_some (range_of (ranges_of h n (suc i) (map descriptor_of rs)) t) ≡ true) → OneHasAll (map (run h) (r ∷ rs)) t.hash t.range.start t.range.end
+        → is_some (cond b (Some (range_at h n i r)) (range_of (ranges_of h n (suc i) (map descriptor_of rs)) t)) ≡ true
+    of true e more q = refl
+    of false e more (inl q) = let f : true ≡ false = sym (run_holds h n i r t l q) ∙ e in absurd cc
+    of false e more (inr q) = more q
 
 -- the first range that holds the term is found, where there is one
-pub found : (n : ℕ) (rs : List Run) (t : XorbReconstructionTerm) → t.range.start ≤ t.range.end → OneHasAll rs t.hash t.range.start t.range.end → is_some (range_of (all_ranges n (map fresh_of rs)) t) ≡ true
+pub found : (n : ℕ) (ls : List Linked) (t : XorbReconstructionTerm) → t.range.start ≤ t.range.end → OneHasAll (all_runs ls) t.hash t.range.start t.range.end → is_some (range_of (all_ranges n (map fresh_of ls)) t) ≡ true
 found n [] t l p = absurd p
-found n (r ∷ rs) t l p = of (range_holds t (range_at n r)) refl (λ q. found (suc n) rs t l q) p
-  where
-    of : (b : Bool) → range_holds t (range_at n r) ≡ b → (OneHasAll rs t.hash t.range.start t.range.end → is_some (range_of (all_ranges (suc n) (map fresh_of rs)) t) ≡ true) → OneHasAll (r ∷ rs) t.hash t.range.start t.range.end
-        → is_some (cond b (Some (range_at n r)) (range_of (all_ranges (suc n) (map fresh_of rs)) t)) ≡ true
-    of true e more q = refl
-    of false e more (inl q) = let f : true ≡ false = sym (run_holds n r t l q) ∙ e in absurd cc
-    of false e more (inr q) = more q
+found n (x ∷ ls) t l p = elim (one_cases (link_runs x) (all_runs ls) t.hash t.range.start t.range.end p) as (λ _. is_some (range_of (all_ranges n (map fresh_of (x ∷ ls))) t) ≡ true) [
+  | inl q ↦ left_found t (ranges_of x.hash n 0 (map descriptor_of x.runs)) (all_ranges (suc n) (map fresh_of ls)) (link_found x.hash n 0 x.runs t l q)
+  | inr q ↦ right_found t (ranges_of x.hash n 0 (map descriptor_of x.runs)) (all_ranges (suc n) (map fresh_of ls)) (found (suc n) ls t l q)
+]

@@ -6,7 +6,7 @@ use Rattle.std.specs.FinMap.{get, get-empty}
 use Rattle.xet_types.specs.declared.error.Refusal.{Refusal}
 use Rattle.xet_types.specs.declared.error.Refusal.TheVariants.{FormatError, InvalidRange, InvalidArguments, FileNotFound, XORBNotFound, PresignedUrlExpirationError, IOError, Other, InvalidKey, CacheError, HttpStatus}
 use Rattle.xet_service.specs.declared.reply.Reply.{Reply}
-use Rattle.xet_service.specs.declared.reply.Reply.TheVariants.{Uploaded, ShardTaken, NoPlan, Done, Planned, Fetched, Finished, Size, Data, Refused}
+use Rattle.xet_service.specs.declared.reply.Reply.TheVariants.{Uploaded, ShardTaken, NoPlan, Done, Planned, Fetched, Finished, NoShard, ShardBytes, Size, Data, Refused, Hashes, Files, Random}
 use Rattle.xet_service.specs.declared.step.Act.TheVariants.{Fetch}
 use Rattle.xet_service.specs.declared.read.OpenRead.{OpenRead}
 use Rattle.xet_service.specs.World.{State, Reads, IsInOrder}
@@ -30,6 +30,11 @@ reply_is Done x e = cc
 reply_is (Planned n v o t l) x e = cc
 reply_is (Fetched n l c w k) x e = cc
 reply_is (Finished n b w k) x e = cc
+reply_is NoShard x e = cc
+reply_is (ShardBytes b) x e = cc
+reply_is (Hashes hs) x e = cc
+reply_is (Files fs) x e = cc
+reply_is (Random h) x e = cc
 reply_is (Size n) x e = cc
 reply_is (Data b) x e = cc
 reply_is (Refused why) x e = absurd cc
@@ -42,6 +47,11 @@ refusal_is Done x e = absurd cc
 refusal_is (Planned n v o t l) x e = absurd cc
 refusal_is (Fetched n l c w k) x e = absurd cc
 refusal_is (Finished n b w k) x e = absurd cc
+refusal_is NoShard x e = absurd cc
+refusal_is (ShardBytes b) x e = absurd cc
+refusal_is (Hashes hs) x e = absurd cc
+refusal_is (Files fs) x e = absurd cc
+refusal_is (Random h) x e = absurd cc
 refusal_is (Size n) x e = absurd cc
 refusal_is (Data b) x e = absurd cc
 refusal_is (Refused why) x e = cc
@@ -109,7 +119,7 @@ module _ (facts : PlanFacts) (e : Event) where
 
 -- where no read is open, all are in order
 pub none_in_order : (s : State) → NoneOpen s → IsInOrder s
-none_in_order s none = record { numbered = λ n r e. absurd (closed n r e); of_one = λ n r e. absurd (closed n r e) }
+none_in_order s none = record { numbered = λ n r e. absurd (closed n r e); orderly = λ n r e. absurd (closed n r e) }
   where
     closed : (n : ℕ) (r : OpenRead) → get s.reads n ≡ Some r → ⊥
     closed n r e = let f : None ≡ some_read r = sym (get-empty nat_cmp n) ∙ ap (λ (m : Reads). get m n) (sym none) ∙ e in absurd cc

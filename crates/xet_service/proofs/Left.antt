@@ -10,7 +10,7 @@ use Rattle.xet_store.specs.StoreModel.{Chunks}
 use Rattle.xet_service.specs.declared.read.OpenRead.{OpenRead}
 use Rattle.xet_service.specs.declared.reader.link.ReadLink.{ReadLink}
 use Rattle.xet_service.specs.Reading.{if_left, left_link, left_one, count_left, with_got}
-use Rattle.xet_service.specs.World.{Reads, HasOneRange}
+use Rattle.xet_service.specs.World.{Reads, IsOrderly}
 use Rattle.xet_service.proofs.Serving.{tied_is}
 
 -- ---- reads by number
@@ -62,21 +62,21 @@ some_left (x ∷ ls) zero l e = let sums = sum_by-cons left_one x ls in omega (a
 some_left (x ∷ ls) (suc k) l e = let h : 0 < count_left ls = some_left ls k l e in let sums = sum_by-cons left_one x ls in omega (arith, h, sums)
 
 -- each link's ranges stay
-pub ranges_stay : (ls : List ReadLink) (n : ℕ) (got : List Chunks) → AllByRecursion HasOneRange ls → AllByRecursion HasOneRange (with_got ls n (slice_get ls n) got)
+pub ranges_stay : (ls : List ReadLink) (n : ℕ) (got : List Chunks) → AllByRecursion IsOrderly ls → AllByRecursion IsOrderly (with_got ls n (slice_get ls n) got)
 ranges_stay [] n got h = h
-ranges_stay (x ∷ ls) zero got h = (record { range = h.0.range; only = h.0.only; below = h.0.below }, h.1)
+ranges_stay (x ∷ ls) zero got h = (record { rises = h.0.rises; below = h.0.below }, h.1)
 ranges_stay (x ∷ ls) (suc n) got h = of (slice_get ls n) (ranges_stay ls n got h.1)
   where
-    of : (o : Option ReadLink) → AllByRecursion HasOneRange (with_got ls n o got) → AllByRecursion HasOneRange (with_got (x ∷ ls) (suc n) o got)
+    of : (o : Option ReadLink) → AllByRecursion IsOrderly (with_got ls n o got) → AllByRecursion IsOrderly (with_got (x ∷ ls) (suc n) o got)
     of None r = (h.0, r)
     of (Some l) r = (h.0, r)
 
--- a link that is left has one range
-pub one_range : (ls : List ReadLink) (n : ℕ) (l : ReadLink) → AllByRecursion HasOneRange ls → left_link ls n ≡ Some l → HasOneRange l
-one_range [] n l h e = absurd cc
-one_range (x ∷ ls) zero l h e = of (is_none x.got) e
+-- the ranges of a link that is left are in order
+pub left_orderly : (ls : List ReadLink) (n : ℕ) (l : ReadLink) → AllByRecursion IsOrderly ls → left_link ls n ≡ Some l → IsOrderly l
+left_orderly [] n l h e = absurd cc
+left_orderly (x ∷ ls) zero l h e = of (is_none x.got) e
   where
-    of : (b : Bool) → cond b (Some x) None ≡ Some l → HasOneRange l
-    of true g = let same : x ≡ l = cc in subst HasOneRange same h.0
+    of : (b : Bool) → cond b (Some x) None ≡ Some l → IsOrderly l
+    of true g = let same : x ≡ l = cc in subst IsOrderly same h.0
     of false g = absurd cc
-one_range (x ∷ ls) (suc n) l h e = one_range ls n l h.1 e
+left_orderly (x ∷ ls) (suc n) l h e = left_orderly ls n l h.1 e

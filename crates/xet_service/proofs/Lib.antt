@@ -36,4 +36,8 @@ pub mod Succeeds
 pub mod Following
 pub mod Serviced
 pub mod ReaderAnswers
+pub mod Parted
+pub mod Sent
 pub mod Gathered
+pub mod PartsLaws
+pub mod Fetched

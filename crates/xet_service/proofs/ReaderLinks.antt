@@ -4,7 +4,7 @@ use Rattle.std.specs.Prelude.{slice_get, is_none}
 use Rattle.std.proofs.lemmas.List.Sums.{sum_by-set}
 use Rattle.xet_store.specs.StoreModel.{Chunks}
 use Rattle.xet_service.specs.declared.reader.link.ReadLink.{ReadLink}
-use Rattle.xet_service.specs.Reading.{if_left, left_link, left_one, count_left, with_got, BringsTo, IsOne, Gives}
+use Rattle.xet_service.specs.Reading.{if_left, left_link, left_one, count_left, with_got, BringsTo, Gives}
 
 get_below : {X : Type 0} (xs : List X) (i : ℕ) (x : X) → slice_get xs i ≡ Some x → i < length xs
 get_below [] i x e = absurd cc
@@ -33,7 +33,7 @@ left_at ls n (Some x) l e h = of (is_none x.got) refl h
     of true t h = record { link = x; there = e; left = t }
     of false t h = absurd cc
 
-brought_left : (ls : List ReadLink) (n : ℕ) (content_type body : List ℕ) (got : List Chunks) (o : Option ReadLink) → left_link ls n ≡ o → BringsTo IsOne o content_type body (Ok got) → IsLeftAt ls n
+brought_left : (ls : List ReadLink) (n : ℕ) (content_type body : List ℕ) (got : List Chunks) (o : Option ReadLink) → left_link ls n ≡ o → BringsTo o content_type body (Ok got) → IsLeftAt ls n
 brought_left ls n content_type body got None e h = absurd cc
 brought_left ls n content_type body got (Some l) e h = left_at ls n (slice_get ls n) l refl e
 

@@ -3,7 +3,7 @@ use Rattle.std.proofs.Common.{◌≡◌, ◌∙◌, inl, inr, List, [], ◌∷�
 use Rattle.std.specs.List.{AllByRecursion}
 use Rattle.xet_service.specs.declared.step.Step.{Step}
 use Rattle.xet_service.specs.declared.reply.Reply.{Reply}
-use Rattle.xet_service.specs.declared.reply.Reply.TheVariants.{Uploaded, ShardTaken, NoPlan, Done, Planned, Fetched, Finished, Size, Data, Refused}
+use Rattle.xet_service.specs.declared.reply.Reply.TheVariants.{Uploaded, ShardTaken, NoPlan, Done, Planned, Fetched, Finished, NoShard, ShardBytes, Size, Data, Refused, Hashes, Files, Random}
 use Rattle.xet_service.specs.World.{State}
 use Rattle.xet_service.specs.Steps.{Acts}
 use Rattle.xet_service.specs.Runs.{World, world, Event, IsStep, Chain, outcome_of, step_of, reply_of}
@@ -19,6 +19,11 @@ outcome_same r Done e = reply_is r Done e
 outcome_same r (Planned n v o t l) e = reply_is r (Planned n v o t l) e
 outcome_same r (Fetched n l c w k) e = reply_is r (Fetched n l c w k) e
 outcome_same r (Finished n b w k) e = reply_is r (Finished n b w k) e
+outcome_same r NoShard e = reply_is r NoShard e
+outcome_same r (ShardBytes b) e = reply_is r (ShardBytes b) e
+outcome_same r (Hashes hs) e = reply_is r (Hashes hs) e
+outcome_same r (Files fs) e = reply_is r (Files fs) e
+outcome_same r (Random h) e = reply_is r (Random h) e
 outcome_same r (Size n) e = reply_is r (Size n) e
 outcome_same r (Data b) e = reply_is r (Data b) e
 outcome_same r (Refused why) e = refusal_is r why e

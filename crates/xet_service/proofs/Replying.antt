@@ -10,7 +10,7 @@ use Rattle.xet_plan.specs.Footers.{FailsOnlyByFault}
 use Rattle.xet_store.specs.Refusals.{RefusedBy, IsRefused}
 use Rattle.xet_service.specs.declared.step.Step.{Step}
 use Rattle.xet_service.specs.declared.reply.Reply.{Reply}
-use Rattle.xet_service.specs.declared.reply.Reply.TheVariants.{Uploaded, ShardTaken, NoPlan, Done, Planned, Fetched, Finished, Size, Data, Refused}
+use Rattle.xet_service.specs.declared.reply.Reply.TheVariants.{Uploaded, ShardTaken, NoPlan, Done, Planned, Fetched, Finished, NoShard, ShardBytes, Size, Data, Refused, Hashes, Files, Random}
 use Rattle.xet_service.specs.World.{State}
 use Rattle.xet_service.specs.Steps.{Acts, Does, DoesErr}
 use Rattle.xet_service.specs.Causes.{IsAsked}
@@ -27,6 +27,11 @@ answer_is Done h = refl
 answer_is (Planned n v o t l) h = refl
 answer_is (Fetched n l c w k) h = refl
 answer_is (Finished n b w k) h = refl
+answer_is NoShard h = refl
+answer_is (ShardBytes b) h = refl
+answer_is (Hashes hs) h = refl
+answer_is (Files fs) h = refl
+answer_is (Random hash) h = refl
 answer_is (Size n) h = refl
 answer_is (Data b) h = refl
 

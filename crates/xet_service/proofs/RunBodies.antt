@@ -12,7 +12,7 @@ use Rattle.xet_xorb.specs.XorbBytes.{header_bytes, chunk_bytes, xorb_text, xorb_
 use Rattle.xet_xorb.proofs.ChunkText.{length-header, each_of_formed}
 use Rattle.xet_store.specs.StoreModel.{Chunks}
 use Rattle.xet_store.proofs.Chunks.{from_chunk, more_before, tail_of, text_is, kept_within}
-use Rattle.xet_service.specs.Bodies.{body_of}
+use Rattle.xet_service.specs.Bodies.{piece_of}
 
 -- a front that is longer than a list
 take_past : (xs ys : List ℕ) (k : ℕ) → take (length xs + k) (xs ++ ys) ≡ xs ++ take k ys
@@ -67,8 +67,8 @@ within cs b some bl =
     let e : (b - 1) + 1 ≡ b = omega (arith, some) in
     subst (λ n. packed_before (lengths_of cs) n ≤ length (xorb_bytes cs)) e w.1
 
--- the body of a run is its chunks, each behind its header
-pub run_body : (cs : Chunks) (a b : ℕ) → a < b → b ≤ length cs → body_of (run_bytes cs a b) cs ≡ Ok (xorb_text (slice_range cs a b))
+-- the bytes of a run are its chunks, each behind its header
+pub run_body : (cs : Chunks) (a b : ℕ) → a < b → b ≤ length cs → piece_of (run_bytes cs a b) cs ≡ Ok (xorb_text (slice_range cs a b))
 run_body cs a b ab bl =
     let low : nat_lt (packed_before (lengths_of cs) a) (packed_before (lengths_of cs) b) ≡ true = lt-ltb (packed_before (lengths_of cs) a) (packed_before (lengths_of cs) b) (rises cs a b ab bl) in
     let high : nat_le (packed_before (lengths_of cs) b) (length (xorb_bytes cs)) ≡ true = le-leb (packed_before (lengths_of cs) b) (length (xorb_bytes cs)) (within cs b (omega (arith, ab)) bl) in

@@ -5,8 +5,9 @@ use Rattle.xet_plan.specs.declared.runs.MergedRange.{MergedRange}
 use Rattle.xet_plan.specs.Runs.{Covers, InGroups, Separated}
 use Rattle.xet_plan.specs.Merging.{Ranges, group_of, chunks_part}
 use Rattle.xet_plan.proofs.Order.{before-same}
-use Rattle.xet_service.proofs.PlanRuns.{Run, run, group_runs, link_of, Before, InOrder}
-use Rattle.xet_service.specs.Headline.{LinkHas, LinksHave, EachOnce}
+use Rattle.xet_store.specs.Responses.{descriptor_of}
+use Rattle.xet_service.proofs.PlanRuns.{Run, run, group_runs, Linked, link_runs, all_runs, link_of, Before, InOrder, order_right}
+use Rattle.xet_service.specs.Headline.{RangesHave, LinksHave, EachOnce}
 
 -- chunk k of the xorb is one of the run's
 abbrev pub RunHas : Run → List ℕ → ℕ → Type 0
@@ -16,22 +17,7 @@ abbrev pub RunsHave : List Run → List ℕ → ℕ → Type 0
 RunsHave [] h k = ⊥
 RunsHave (r ∷ rs) h k = RunHas r h k ⊎ RunsHave rs h k
 
--- ---- links
-
-pub link_run : (at : ℕ) (r : Run) (h : List ℕ) (k : ℕ) → LinkHas (link_of at r) h k → RunHas r h k
-link_run at r h k p = elim p.1 as (λ _. RunHas r h k) [ inl q ↦ (p.0, q.0, q.1) | inr q ↦ absurd q ]
-
-pub links_runs : (at : ℕ) (rs : List Run) (h : List ℕ) (k : ℕ) → LinksHave (map (link_of at) rs) h k → RunsHave rs h k
-links_runs at [] h k p = p
-links_runs at (r ∷ rs) h k (inl p) = inl (link_run at r h k p)
-links_runs at (r ∷ rs) h k (inr p) = inr (links_runs at rs h k p)
-
-pub runs_links : (at : ℕ) (rs : List Run) (h : List ℕ) (k : ℕ) → RunsHave rs h k → LinksHave (map (link_of at) rs) h k
-runs_links at [] h k p = p
-runs_links at (r ∷ rs) h k (inl p) = inl (p.0, inl (p.1, p.2))
-runs_links at (r ∷ rs) h k (inr p) = inr (runs_links at rs h k p)
-
--- ---- groups
+-- ---- lists of runs
 
 have_left : (xs ys : List Run) (h : List ℕ) (k : ℕ) → RunsHave xs h k → RunsHave (xs ++ ys) h k
 have_left [] ys h k p = absurd p
@@ -46,6 +32,32 @@ have_cases : (xs ys : List Run) (h : List ℕ) (k : ℕ) → RunsHave (xs ++ ys)
 have_cases [] ys h k p = inr p
 have_cases (x ∷ xs) ys h k (inl p) = inl (inl p)
 have_cases (x ∷ xs) ys h k (inr p) = elim (have_cases xs ys h k p) as (λ _. RunsHave (x ∷ xs) h k ⊎ RunsHave ys h k) [ inl q ↦ inl (inr q) | inr q ↦ inr q ]
+
+-- ---- links
+
+link_has : (g : List ℕ) (rs : List MergedRange) (h : List ℕ) (k : ℕ) → g ≡ h → RangesHave (map descriptor_of rs) k → RunsHave (map (run g) rs) h k
+link_has g [] h k e p = p
+link_has g (r ∷ rs) h k e (inl p) = inl (e, p.0, p.1)
+link_has g (r ∷ rs) h k e (inr p) = inr (link_has g rs h k e p)
+
+link_had : (g : List ℕ) (rs : List MergedRange) (h : List ℕ) (k : ℕ) → RunsHave (map (run g) rs) h k → (g ≡ h) × RangesHave (map descriptor_of rs) k
+link_had g [] h k p = absurd p
+link_had g (r ∷ rs) h k (inl p) = (p.0, inl (p.1, p.2))
+link_had g (r ∷ rs) h k (inr p) = let q : (g ≡ h) × RangesHave (map descriptor_of rs) k = link_had g rs h k p in (q.0, inr q.1)
+
+pub links_runs : (ls : List Linked) (h : List ℕ) (k : ℕ) → LinksHave (map link_of ls) h k → RunsHave (all_runs ls) h k
+links_runs [] h k p = p
+links_runs (l ∷ ls) h k (inl p) = have_left (link_runs l) (all_runs ls) h k (link_has l.hash l.runs h k p.0 p.1)
+links_runs (l ∷ ls) h k (inr p) = have_right (link_runs l) (all_runs ls) h k (links_runs ls h k p)
+
+pub runs_links : (ls : List Linked) (h : List ℕ) (k : ℕ) → RunsHave (all_runs ls) h k → LinksHave (map link_of ls) h k
+runs_links [] h k p = p
+runs_links (l ∷ ls) h k p = elim (have_cases (link_runs l) (all_runs ls) h k p) as (λ _. LinksHave (map link_of (l ∷ ls)) h k) [
+  | inl q ↦ inl (link_had l.hash l.runs h k q)
+  | inr q ↦ inr (runs_links ls h k q)
+]
+
+-- ---- groups
 
 covers_runs : (g : List ℕ) (rs : List MergedRange) (h : List ℕ) (k : ℕ) → g ≡ h → Covers (map chunks_part rs) k → RunsHave (map (run g) rs) h k
 covers_runs g [] h k e p = p
@@ -80,14 +92,17 @@ later_past r (s ∷ rs) h k b e (inl p) = elim b.0 as (λ _. r.range.chunk_range
 ]
 later_past r (s ∷ rs) h k b e (inr p) = later_past r rs h k b.1 e p
 
-pub runs_once : (at : ℕ) (rs : List Run) → InOrder (rs) → EachOnce (map (link_of at) rs)
-runs_once at [] o = tt
-runs_once at (r ∷ rs) o = (
-  λ h k p q.
-      (let a : RunHas r h k = link_run at r h k p in
-      let past : r.range.chunk_range.end < k = later_past r rs h k o.0 a.0 (links_runs at rs h k q) in
-      absurd (omega (arith, past, a.2))),
-  runs_once at rs o.1,
+-- runs in order have no chunk in common with those behind them
+apart_runs : (xs ys : List Run) → InOrder (xs ++ ys) → (h : List ℕ) (k : ℕ) → RunsHave xs h k → RunsHave ys h k → ⊥
+apart_runs [] ys o h k p q = p
+apart_runs (x ∷ xs) ys o h k (inl p) q = let past : x.range.chunk_range.end < k = later_past x (xs ++ ys) h k o.0 p.0 (have_right xs ys h k q) in absurd (omega (arith, past, p.2))
+apart_runs (x ∷ xs) ys o h k (inr p) q = apart_runs xs ys o.1 h k p q
+
+pub runs_once : (ls : List Linked) → InOrder (all_runs ls) → EachOnce (map link_of ls)
+runs_once [] o = tt
+runs_once (l ∷ ls) o = (
+  λ h k p q. apart_runs (link_runs l) (all_runs ls) o h k (link_has l.hash l.runs h k p.0 p.1) (links_runs ls h k q),
+  runs_once ls (order_right (link_runs l) (all_runs ls) o),
 )
 
 -- ---- no run is empty

@@ -1,68 +1,63 @@
 -- A fetch of a good link whose xorb is stored is not refused by its reader.
-use Rattle.std.proofs.Common.{◌≡◌, ◌∙◌, ℕ, ◌-◌, true, length, drop, Some, Ok, Err, refl, sym, ap, arith}
+use Rattle.std.proofs.Common.{◌≡◌, ◌∙◌, ℕ, ◌-◌, true, false, List, [], ◌∷◌, length, drop, map, Some, Ok, Err, Result, refl, sym, subst, arith}
 use Rattle.std.specs.Prelude.{◌==◌}
+use Rattle.std.specs.List.{AllByRecursion}
 use Rattle.std.proofs.lemmas.Bool.{eq-eqb}
 use Rattle.std.proofs.lemmas.List.{length-take, length-drop}
-use Rattle.xet_types.specs.Ranges.{file_range_of}
 use Rattle.xet_types.specs.declared.error.Refusal.{Refusal}
-use Rattle.xet_types.specs.declared.error.Refusal.TheVariants.{FormatError, Other}
+use Rattle.xet_types.specs.declared.error.Refusal.TheVariants.{FormatError, InvalidRange, Other}
 use Rattle.xet_types.specs.declared.error.FormatFault.TheVariants as faults
-use Rattle.xet_types.specs.declared.range.Range.{Range}
-use Rattle.xet_types.specs.declared.range._F.{_F}
-use Rattle.xet_xorb.specs.Lengths.{packed_before}
-use Rattle.xet_xorb.specs.ChunkLists.{lengths_of}
-use Rattle.xet_xorb.specs.XorbBytes.{xorb_text, AreWholeChunks}
+use Rattle.xet_types.specs.declared.record.XorbRangeDescriptor.{XorbRangeDescriptor}
 use Rattle.xet_plan.specs.FileBytes.{Content}
 use Rattle.xet_store.specs.StoreModel.{StoreModel, Chunks, stored}
-use Rattle.xet_store.specs.Questions.{of_xorb}
 use Rattle.xet_service.specs.declared.reader.link.ReadLink.{ReadLink}
-use Rattle.xet_service.specs.Bodies.{body_of, stored_body}
-use Rattle.xet_service.specs.Reading.{fits, bytes_in, IsOne, BringsOne}
+use Rattle.xet_service.specs.Bodies.{Body, type_text, bytes_at, Sends, SendsOf, SendsStored}
+use Rattle.xet_service.specs.Reading.{have_counts, fits, AreAllWhole, HasParts, Brings}
+use Rattle.xet_service.specs.Steps.{asked_bytes}
 use Rattle.xet_service.specs.Validity.{AgreesWith}
-use Rattle.xet_service.proofs.Opening.{packed_short}
-use Rattle.xet_service.proofs.RunBodies.{run_bytes, rises, run_body, run_whole}
-use Rattle.xet_service.proofs.Stepping.{body_sized}
-use Rattle.xet_service.proofs.Determining.{unlike}
-use Rattle.xet_service.proofs.Goods.{cut_chunks, GoodLink}
-use Rattle.xet_service.proofs.Taken.{some_is, range_is}
+use Rattle.xet_service.proofs.Parted.{parts_once, written_parts}
+use Rattle.xet_service.proofs.ReaderAnswers.{unlike}
+use Rattle.xet_service.proofs.Goods.{cut_chunks, all_chunks, GoodRange, GoodLink}
+use Rattle.xet_service.proofs.Taken.{some_is, good_pieces, AreGoodPieces}
+
+counts : (all : Chunks) (rs : List XorbRangeDescriptor) → AllByRecursion (GoodRange all) rs → have_counts rs (all_chunks all rs) ≡ true
+counts all [] g = refl
+counts all (r ∷ rs) g =
+    let cut = length-take (r.chunks.end - r.chunks.start) (drop r.chunks.start all) in
+    let rest = length-drop r.chunks.start all in
+    let many : (length (cut_chunks all r) == r.chunks.end - r.chunks.start) ≡ true = eq-eqb (length (cut_chunks all r)) (r.chunks.end - r.chunks.start) (omega (arith, cut, rest, g.0.some, g.0.inside)) in
+    rw (many, counts all rs g.1) refl
 
 module _ (m : Content) (store : StoreModel) (l : ReadLink) (g : GoodLink m l) (chunks : Chunks) (agree : AgreesWith m store) (there : stored store l.hash ≡ Some chunks) where
   list : chunks ≡ g.all
   list = some_is chunks g.all (sym (agree l.hash chunks there) ∙ g.is)
 
-  bytes : file_range_of g.range.bytes ≡ run_bytes g.all g.range.chunks.start g.range.chunks.end
-  bytes =
-      let up = rises g.all g.range.chunks.start g.range.chunks.end g.some g.inside in
-      range_is g.range.bytes (packed_before (lengths_of g.all) g.range.chunks.start) (packed_before (lengths_of g.all) g.range.chunks.end) g.first g.last (omega (arith, up)) (packed_short g.all g.range.chunks.end g.formed g.inside)
+  pieces : AreGoodPieces g.all l.ranges
+  pieces = good_pieces g.all l.ranges g.formed g.each
 
-  body_is : body_of (file_range_of g.range.bytes) chunks ≡ Ok (xorb_text (cut_chunks g.all g.range))
-  body_is =
-      ap (λ (r : Range ℕ _F). body_of r chunks) bytes
-      ∙ ap (body_of (run_bytes g.all g.range.chunks.start g.range.chunks.end)) list
-      ∙ run_body g.all g.range.chunks.start g.range.chunks.end g.some g.inside
+  -- what is sent is a body of them
+  sent_good : (r : Result Body Refusal) → SendsStored store l.hash (asked_bytes l.ranges) r → Sends g.all (asked_bytes l.ranges) r
+  sent_good r h = subst (λ (cs : Chunks). Sends cs (asked_bytes l.ranges) r) list (subst (λ (o : _). SendsOf l.hash (asked_bytes l.ranges) o r) there h)
 
   -- the store has the link's bytes
-  pub is_there : stored_body store l.hash (file_range_of g.range.bytes) ≡ Ok (xorb_text (cut_chunks g.all g.range))
-  is_there = ap (of_xorb l.hash (body_of (file_range_of g.range.bytes))) there ∙ body_is
+  pub never_past : (why : Refusal) → SendsStored store l.hash (asked_bytes l.ranges) (Err why) → ⊥
+  never_past InvalidRange h = let f : true ≡ false = sym pieces.inside ∙ sent_good (Err InvalidRange) h in cc
+  never_past why h = sent_good (Err why) h
 
-  whole : AreWholeChunks (xorb_text (cut_chunks g.all g.range)) (cut_chunks g.all g.range)
-  whole = run_whole g.all g.range.chunks.start g.range.chunks.end g.formed g.some g.inside
+  fit : fits l.ranges l.held (all_chunks g.all l.ranges) ≡ true
+  fit = rw (counts g.all l.ranges g.each, g.fit) refl
 
-  sized : length (xorb_text (cut_chunks g.all g.range)) ≡ bytes_in g.range.bytes
-  sized =
-      let short = packed_short g.all g.range.chunks.end g.formed g.inside in
-      body_sized g.range chunks (xorb_text (cut_chunks g.all g.range)) (let last = g.last in omega (arith, last, short)) body_is
+  module _ (body : Body) (sent : SendsStored store l.hash (asked_bytes l.ranges) (Ok body)) where
+    has : HasParts l.ranges (type_text body.content_type) body.bytes (map (bytes_at g.all) (asked_bytes l.ranges))
+    has = written_parts g.all l.ranges g.rises pieces.below pieces.inside body (sent_good (Ok body) sent).1
 
-  fit : fits g.range l.held (cut_chunks g.all g.range) ≡ true
-  fit =
-      let cut = length-take (g.range.chunks.end - g.range.chunks.start) (drop g.range.chunks.start g.all) in
-      let rest = length-drop g.range.chunks.start g.all in
-      let many : (length (cut_chunks g.all g.range) == g.range.chunks.end - g.range.chunks.start) ≡ true = eq-eqb (length (cut_chunks g.all g.range)) (g.range.chunks.end - g.range.chunks.start) (omega (arith, cut, rest, g.some, g.inside)) in
-      rw (many, g.fit) refl
+    same_parts : (p : List (List ℕ)) → HasParts l.ranges (type_text body.content_type) body.bytes p → p ≡ map (bytes_at g.all) (asked_bytes l.ranges)
+    same_parts p h = parts_once l.ranges (type_text body.content_type) body.bytes p (map (bytes_at g.all) (asked_bytes l.ranges)) h has
 
-  -- which its reader takes
-  pub never_refused : (why : Refusal) → BringsOne IsOne g.range l.held (xorb_text (cut_chunks g.all g.range)) (Err why) → ⊥
-  never_refused Other h = h sized
-  never_refused (FormatError faults.Xorb) h = h.none (cut_chunks g.all g.range) whole
-  never_refused (FormatError faults.Body) h = unlike g.range l.held (xorb_text (cut_chunks g.all g.range)) (cut_chunks g.all g.range) h.chunks whole h.whole fit h.misfit
-  never_refused why h = h
+    -- which its reader takes
+    pub never_refused : (why : Refusal) → Brings l (type_text body.content_type) body.bytes (Err why) → ⊥
+    never_refused Other h = h (map (bytes_at g.all) (asked_bytes l.ranges)) has
+    never_refused (FormatError faults.Xorb) h = h.none (all_chunks g.all l.ranges) (subst (λ (p : List (List ℕ)). AreAllWhole p (all_chunks g.all l.ranges)) (sym (same_parts h.parts h.has)) pieces.whole)
+    never_refused (FormatError faults.Body) h =
+        unlike l.ranges l.held (map (bytes_at g.all) (asked_bytes l.ranges)) (all_chunks g.all l.ranges) h.got pieces.whole (subst (λ (p : List (List ℕ)). AreAllWhole p h.got) (same_parts h.parts h.has) h.whole) fit h.misfit
+    never_refused why h = h

@@ -3,7 +3,6 @@ use Rattle.std.proofs.Common.{◌≡◌, ◌∙◌, ℕ, zero, suc, ◌<◌, tru
 use Rattle.std.proofs.lemmas.Bool.{eqb-true, eq-eqb}
 use Rattle.std.specs.Prelude.{slice_get}
 use Rattle.std.specs.FinMap.{get}
-use Rattle.xet_types.specs.Records.{second_of}
 use Rattle.xet_types.specs.declared.error.Refusal.{Refusal}
 use Rattle.xet_types.specs.declared.error.Refusal.TheVariants.{FormatError, InvalidArguments, XORBNotFound}
 use Rattle.xet_types.specs.declared.error.FormatFault.TheVariants as faults
@@ -18,11 +17,10 @@ use Rattle.xet_plan.specs.FileBytes.{Content}
 use Rattle.xet_plan.specs.Plans.{PlanModel}
 use Rattle.xet_store.specs.StoreModel.{known_of}
 use Rattle.xet_store.specs.Plans.{Serves, PlansListed, PlansReached, PlansWithin}
-use Rattle.xet_store.specs.Responses.{first_of, response_of}
+use Rattle.xet_store.specs.Responses.{response_by}
 use Rattle.xet_service.specs.declared.step.Act.{Act}
-use Rattle.xet_service.specs.declared.step.Act.TheVariants.{UploadXorb, UploadShard, Plan, Fetch, Abandon, HideFile, DeleteShard, DeleteXorb, SetExpiration, FileSize, FileData}
+use Rattle.xet_service.specs.declared.step.Act.TheVariants.{UploadXorb, UploadShard, Plan, Fetch, Abandon, HideFile, DeleteShard, DeleteXorb, SetExpiration, SetMaxRanges, FileSize, FileData, SetDedupExpiration, DedupQuery, RemoveDedup, ListXorbs, ListShards, ListFiles, CheckIntegrity, CheckReachable, CheckReadable, InsertRandomXorb}
 use Rattle.xet_service.specs.declared.step.PlanVersion.{PlanVersion}
-use Rattle.xet_service.specs.declared.step.PlanVersion.TheVariants.{V1}
 use Rattle.xet_service.specs.declared.reply.PlannedLink.{PlannedLink}
 use Rattle.xet_service.specs.declared.reply.Reply.TheVariants.{Planned}
 use Rattle.xet_service.specs.declared.read.OpenRead.{OpenRead}
@@ -36,11 +34,9 @@ use Rattle.xet_service.proofs.Succeeds.{IsOpen, Follows, fetch_goes, is_open, ha
 use Rattle.xet_types.specs.Records.{SecondPlan}
 use Rattle.xet_service.specs.declared.reader.held.HeldTerm.{HeldTerm}
 use Rattle.xet_service.specs.declared.reader.link.ReadLink.{ReadLink}
-use Rattle.xet_service.specs.Links.{planned_links}
+use Rattle.xet_service.specs.Links.{planned_links, answer_of}
 use Rattle.xet_service.specs.ReadingPlans.{can_open, with_terms, plan_terms}
-use Rattle.xet_service.proofs.PlanRuns.{Run, runs_of, link_of, links_same}
-use Rattle.xet_service.proofs.Holders.{fresh_of}
-use Rattle.xet_service.proofs.Opening.{plan_fresh}
+use Rattle.xet_service.proofs.PlanRuns.{Linked, link_of, fresh_of, links_in, links_same, plan_fresh}
 use Rattle.xet_service.proofs.Planned.{answered_links, planned_some}
 use Rattle.xet_service.proofs.Facts.{plan_facts, good_facts}
 use Rattle.xet_service.proofs.Keeping.{reply_is}
@@ -100,6 +96,17 @@ module _ (m : Content) (e : Event) (n stamp : ℕ) (links : List PlannedLink) (l
   goes_by (DeleteShard shard) act_is valid = (tt, other_goes _ act_is tt)
   goes_by (DeleteXorb xorb) act_is valid = (tt, other_goes _ act_is tt)
   goes_by (SetExpiration millis) act_is valid = (tt, other_goes _ act_is tt)
+  goes_by (SetDedupExpiration millis) act_is valid = (tt, other_goes _ act_is tt)
+  goes_by (DedupQuery chunk) act_is valid = (tt, other_goes _ act_is tt)
+  goes_by (SetMaxRanges max) act_is valid = (tt, other_goes _ act_is tt)
+  goes_by (RemoveDedup shard) act_is valid = (tt, other_goes _ act_is tt)
+  goes_by ListXorbs act_is valid = (tt, other_goes _ act_is tt)
+  goes_by ListShards act_is valid = (tt, other_goes _ act_is tt)
+  goes_by ListFiles act_is valid = (tt, other_goes _ act_is tt)
+  goes_by CheckIntegrity act_is valid = (tt, other_goes _ act_is tt)
+  goes_by CheckReachable act_is valid = (tt, other_goes _ act_is tt)
+  goes_by CheckReadable act_is valid = (tt, other_goes _ act_is tt)
+  goes_by (InsertRandomXorb seed count size) act_is valid = (tt, other_goes _ act_is tt)
   goes_by (FileSize file) act_is valid = (tt, other_goes _ act_is tt)
   goes_by (FileData file range) act_is valid = (tt, other_goes _ act_is tt)
 
@@ -116,77 +123,83 @@ rest_goes facts m n stamp links left w (e ∷ es) end chain agree good follows v
 
 -- ---- a served plan opens a read
 
-pub record Opened (e : Event) : Type 0 where
+pub record Opened (version : PlanVersion) (e : Event) : Type 0 where
   pub offset : ℕ
   pub terms : List XorbReconstructionTerm
   pub links : List PlannedLink
-  pub reply : e.reply ≡ Planned e.before.state.next V1 offset terms links
+  pub reply : e.reply ≡ Planned e.before.state.next version offset terms links
   pub some : 0 < length links
   pub open_it : IsOpen e.after.state e.before.state.next e.step.at links (all_left links)
 
-fresh_mask : (at n : ℕ) (rs : List Run) (hs : List HeldTerm) → map is_open (with_terms n (map fresh_of rs) hs) ≡ all_left (map (link_of at) rs)
-fresh_mask at n [] hs = refl
-fresh_mask at n (r ∷ rs) hs = ap (λ (bs : List Bool). true ∷ bs) (fresh_mask at (suc n) rs hs)
+fresh_mask : (n : ℕ) (ls : List Linked) (hs : List HeldTerm) → map is_open (with_terms n (map fresh_of ls) hs) ≡ all_left (map link_of ls)
+fresh_mask n [] hs = refl
+fresh_mask n (l ∷ ls) hs = ap (λ (bs : List Bool). true ∷ bs) (fresh_mask (suc n) ls hs)
 
-fresh_hashes : (at n : ℕ) (rs : List Run) (hs : List HeldTerm) → map hash_of (with_terms n (map fresh_of rs) hs) ≡ map link_hash (map (link_of at) rs)
-fresh_hashes at n [] hs = refl
-fresh_hashes at n (r ∷ rs) hs = ap (λ (bs : List (List ℕ)). r.hash ∷ bs) (fresh_hashes at (suc n) rs hs)
+fresh_hashes : (n : ℕ) (ls : List Linked) (hs : List HeldTerm) → map hash_of (with_terms n (map fresh_of ls) hs) ≡ map link_hash (map link_of ls)
+fresh_hashes n [] hs = refl
+fresh_hashes n (l ∷ ls) hs = ap (λ (bs : List (List ℕ)). l.hash ∷ bs) (fresh_hashes (suc n) ls hs)
 
-abbrev open_plan_free : State → SecondPlan → Option (Range ℕ _F) → ℕ → Outcome
-open_plan_free s plan range at = cond (can_open plan) (open_links s plan range at (planned_links plan)) (refuses s InvalidArguments)
+abbrev open_plan_free : State → PlanVersion → SecondPlan → Option (Range ℕ _F) → ℕ → Outcome
+open_plan_free s version plan range at = cond (can_open plan) (open_links s version plan range at (planned_links plan)) (refuses s InvalidArguments)
 
 module _ (e : Event) (version : PlanVersion) (file : List ℕ) (range : Option (Range ℕ _F)) (served : IsServed e file range) where
-  from_links : (plan : PlanModel) → Serves (known_of e.before.state.store) served.segments range served.clip plan → (ls : List PlannedLink) → answered_links e.step.at plan ≡ ls
-      → open_links e.before.state (second_of (first_of e.step.at plan)) range e.step.at ls ≡ (outcome_of e.reply, e.after.state) → Opened e
+  abbrev max : ℕ
+  max = e.before.state.store.max_ranges
+
+  abbrev answer : PlanModel → SecondPlan
+  answer plan = answer_of version max e.step.at plan
+
+  from_links : (plan : PlanModel) → Serves (known_of e.before.state.store) served.segments range served.clip plan → (ls : List PlannedLink) → answered_links version max e.step.at plan ≡ ls
+      → open_links e.before.state version (answer plan) range e.step.at ls ≡ (outcome_of e.reply, e.after.state) → Opened version e
   from_links plan serves [] links h =
-      let some : 0 < length (answered_links e.step.at plan) = planned_some serves.planned range served.reached served.some e.step.at in
-      let none : length (answered_links e.step.at plan) ≡ 0 = ap (λ (ls : List PlannedLink). length ls) links in
+      let some : 0 < length (answered_links version max e.step.at plan) = planned_some version max e.step.at serves.planned range served.reached served.some in
+      let none : length (answered_links version max e.step.at plan) ≡ 0 = ap (λ (ls : List PlannedLink). length ls) links in
       absurd (omega (arith, some, none))
   from_links plan serves (l ∷ ls) links h =
       let s = e.before.state in
       let at = e.step.at in
-      let second = second_of (first_of at plan) in
+      let second = answer plan in
       let read : OpenRead = read_of second range at in
-      let rs = runs_of plan in
-      let fresh = plan_fresh at plan in
+      let ks = links_in version max at plan in
+      let fresh = plan_fresh version max at plan in
       let same : opened s read ≡ e.after.state = ap (λ (o : Outcome). o.1) h in
-      let links_are : map (link_of at) rs ≡ l ∷ ls = sym (links_same at plan) ∙ links in
+      let links_are : map link_of ks ≡ l ∷ ls = sym (links_same version max at plan) ∙ links in
       record {
-        offset = plan.offset_into_first_range;
-        terms = plan.terms;
+        offset = second.offset_into_first_range;
+        terms = second.terms;
         links = l ∷ ls;
-        reply = reply_is e.reply (Planned s.next V1 plan.offset_into_first_range plan.terms (l ∷ ls)) (sym (ap (λ (o : Outcome). o.0) h));
+        reply = reply_is e.reply (Planned s.next version second.offset_into_first_range second.terms (l ∷ ls)) (sym (ap (λ (o : Outcome). o.0) h));
         some = omega arith;
         open_it = record {
           read = read;
           found = ap (λ (t : State). get t.reads s.next) (sym same) ∙ put_here s.reads s.next read;
           stamped = refl;
-          mask = ap (λ (xs : List ReadLink). map is_open (with_terms 0 xs (plan_terms second))) fresh ∙ fresh_mask at 0 rs (plan_terms second) ∙ ap all_left links_are;
-          hashes = ap (λ (xs : List ReadLink). map hash_of (with_terms 0 xs (plan_terms second))) fresh ∙ fresh_hashes at 0 rs (plan_terms second) ∙ ap (map link_hash) links_are;
+          mask = ap (λ (xs : List ReadLink). map is_open (with_terms 0 xs (plan_terms second))) fresh ∙ fresh_mask 0 ks (plan_terms second) ∙ ap all_left links_are;
+          hashes = ap (λ (xs : List ReadLink). map hash_of (with_terms 0 xs (plan_terms second))) fresh ∙ fresh_hashes 0 ks (plan_terms second) ∙ ap (map link_hash) links_are;
         };
       }
 
   faulty : (x : Refusal) → first_fault (known_of e.before.state.store) served.clip served.segments ≡ Some x → ⊥
   faulty x h = let k : ◌≡◌ {A = Option Refusal} None (Some x) = sym served.agree ∙ h in absurd cc
 
-  from_answer : (r : Result (Option PlanModel) Refusal) → PlansWithin (known_of e.before.state.store) served.segments range served.clip r → plan_step e.before.state range e.step.at (response_of e.step.at r) ≡ (outcome_of e.reply, e.after.state) → Opened e
+  from_answer : (r : Result (Option PlanModel) Refusal) → PlansWithin (known_of e.before.state.store) served.segments range served.clip r → plan_step e.before.state version range e.step.at (response_by answer r) ≡ (outcome_of e.reply, e.after.state) → Opened version e
   from_answer (Ok None) h step = absurd h
   from_answer (Ok (Some plan)) h step =
-      from_links plan h (answered_links e.step.at plan) refl
-      (subst (λ (b : Bool). cond b (open_links e.before.state (second_of (first_of e.step.at plan)) range e.step.at (answered_links e.step.at plan)) (refuses e.before.state InvalidArguments) ≡ (outcome_of e.reply, e.after.state)) (plan_facts.opens e.before.state.store served.segments range served.clip plan e.step.at h)
-      (subst (λ (b : Bool). cond b (refuses e.before.state InvalidArguments) (open_plan_free e.before.state (second_of (first_of e.step.at plan)) range e.step.at) ≡ (outcome_of e.reply, e.after.state)) served.numbered step))
+      from_links plan h (answered_links version max e.step.at plan) refl
+      (subst (λ (b : Bool). cond b (open_links e.before.state version (answer plan) range e.step.at (answered_links version max e.step.at plan)) (refuses e.before.state InvalidArguments) ≡ (outcome_of e.reply, e.after.state)) (plan_facts.opens version max e.before.state.store served.segments range served.clip plan e.step.at h)
+      (subst (λ (b : Bool). cond b (refuses e.before.state InvalidArguments) (open_plan_free e.before.state version (answer plan) range e.step.at) ≡ (outcome_of e.reply, e.after.state)) served.numbered step))
   from_answer (Err (XORBNotFound hash)) h step = absurd (faulty (XORBNotFound hash) h)
   from_answer (Err (FormatError faults.Segment)) h step = absurd (faulty (FormatError faults.Segment) h)
   from_answer (Err why) h step = absurd h
 
-  served_opens : IsStep e → e.step.act ≡ Plan version file range → Opened e
-  served_opens is act_is = elim is.steps.does as (λ _. Opened e) [
+  served_opens : IsStep e → e.step.act ≡ Plan version file range → Opened version e
+  served_opens is act_is = elim is.steps.does as (λ _. Opened version e) [
     | inl d ↦
         (let s = e.before.state in
-        let h : PlansBy s file range e.step.at (outcome_of e.reply) e.after.state = subst (λ (a : Act). Acts s e.step.at a (outcome_of e.reply) e.after.state) act_is d in
+        let h : PlansBy s version file range e.step.at (outcome_of e.reply) e.after.state = subst (λ (a : Act). Acts s e.step.at a (outcome_of e.reply) e.after.state) act_is d in
         let listed : PlansListed (known_of s.store) range (Some served.segments) h.responds.answer = subst (λ (o : Option (List Segment)). PlansListed (known_of s.store) range o h.responds.answer) served.live h.responds.plans in
         let within : PlansReached (known_of s.store) served.segments range (Within served.clip.start served.clip.end) h.responds.answer = subst (λ (r : Reach). PlansReached (known_of s.store) served.segments range r h.responds.answer) served.reached listed in
-        from_answer h.responds.answer within (ap (plan_step s range e.step.at) (sym h.responds.response) ∙ h.step))
+        from_answer h.responds.answer within (ap (plan_step s version range e.step.at) (sym h.responds.response) ∙ h.step))
     | inr f ↦ absurd (served.quiet f.rose)
   ]
 

@@ -7,7 +7,7 @@ use Rattle.std.proofs.lemmas.Bool.{eqb-true}
 use Rattle.std.proofs.lemmas.Cmp.{nat_cmp_total}
 use Rattle.std.specs.FinMap.{get, insert, remove, get-insert, get-remove, nat_cmp-IsAntisymmetric, same_map}
 use Rattle.xet_types.specs.Faults.{refusal_of}
-use Rattle.xet_types.specs.Records.{FirstPlan, SecondPlan, second_of}
+use Rattle.xet_types.specs.Records.{SecondPlan}
 use Rattle.xet_types.specs.declared.error.ClientError.{ClientError}
 use Rattle.xet_types.specs.declared.error.Refusal.{Refusal}
 use Rattle.xet_types.specs.declared.error.Refusal.TheVariants.{FormatError, InvalidRange, InvalidArguments, FileNotFound, XORBNotFound, PresignedUrlExpirationError, IOError, Other, InvalidKey, CacheError, HttpStatus}
@@ -15,8 +15,10 @@ use Rattle.xet_types.specs.declared.range.Range.{Range}
 use Rattle.xet_types.specs.declared.range._F.{_F}
 use Rattle.xet_store.specs.Answered.{Answered, AnsweredErr}
 use Rattle.xet_store.specs.StoreModel.{StoreModel}
-use Rattle.xet_store.specs.Responses.{Responds}
-use Rattle.xet_service.specs.declared.step.PlanVersion.TheVariants.{V1}
+use Rattle.xet_store.specs.Responses.{RespondsBy}
+use Rattle.xet_service.specs.declared.step.PlanVersion.{PlanVersion}
+use Rattle.xet_service.specs.Links.{answer_of}
+use Rattle.xet_service.specs.Bodies.{Body, type_text}
 use Rattle.xet_service.specs.declared.reply.CacheNote.{CacheNote}
 use Rattle.xet_service.specs.declared.reply.PlannedLink.{PlannedLink}
 use Rattle.xet_service.specs.declared.reply.Reply.{Reply}
@@ -91,31 +93,31 @@ pub accepted_fewer : (old new : Reading) (n : ℕ) (content_type body : List ℕ
 accepted_fewer old new n content_type body a =
     ap (λ (r : Reading). count_left r.links + 1) a.1.1 ∙ count_given old.links old.links n content_type body a.0 refl a.1.0
 
-module _ (old : Reads) (read link : ℕ) (body : List ℕ) (held other : OpenRead) (opened : Reads) (held_is : Some held ≡ get old read) (opened_is : opened ≡ insert old read other) where
-  pub more_takes : (after : Reading) (left wire : ℕ) (note : CacheNote) (closed : Reads) → Takes held.reader link [] body (Ok None) after
-      → left ≡ count_left held.reader.links - 1 → wire ≡ length body → note ≡ no_note → closed ≡ insert opened read (with_reader held after) → TakesAt old read link body (Ok (Fetched read link left wire note)) closed
+module _ (old : Reads) (read link : ℕ) (body : Body) (held other : OpenRead) (opened : Reads) (held_is : Some held ≡ get old read) (opened_is : opened ≡ insert old read other) where
+  pub more_takes : (after : Reading) (left wire : ℕ) (note : CacheNote) (closed : Reads) → Takes held.reader link (type_text body.content_type) body.bytes (Ok None) after
+      → left ≡ count_left held.reader.links - 1 → wire ≡ length body.bytes → note ≡ no_note → closed ≡ insert opened read (with_reader held after) → TakesAt old read link body (Ok (Fetched read link left wire note)) closed
   more_takes after left wire note closed takes left_is wire_is note_is closed_is =
       (held, (sym held_is, record { answer = Ok tt; after = after; accepts = takes.0; step = of (count_left after.links) takes.1 (omega (arith, fewer, left_is)) }))
     where
       fewer : count_left after.links + 1 ≡ count_left held.reader.links
-      fewer = accepted_fewer held.reader after link [] body takes.0
+      fewer = accepted_fewer held.reader after link (type_text body.content_type) body.bytes takes.0
 
       put_it : closed ≡ insert old read (with_reader held after)
       put_it = closed_is ∙ ap (λ (m : Reads). insert m read (with_reader held after)) opened_is ∙ put_twice old read other (with_reader held after)
 
-      of : (k : ℕ) → None ≡ bytes_if after k → left ≡ k → fetch_done old read link (length body) (with_reader held after) k ≡ (Ok (Fetched read link left wire note), closed)
+      of : (k : ℕ) → None ≡ bytes_if after k → left ≡ k → fetch_done old read link (length body.bytes) (with_reader held after) k ≡ (Ok (Fetched read link left wire note), closed)
       of zero t e = absurd cc
       of (suc k) t e = rw (e, wire_is, note_is, put_it) refl
 
-  pub last_takes : (after : Reading) (bytes : List ℕ) (wire : ℕ) (note : CacheNote) (closed : Reads) → Takes held.reader link [] body (Ok (Some bytes)) after
-      → wire ≡ length body → note ≡ no_note → closed ≡ remove opened read → TakesAt old read link body (Ok (Finished read bytes wire note)) closed
+  pub last_takes : (after : Reading) (bytes : List ℕ) (wire : ℕ) (note : CacheNote) (closed : Reads) → Takes held.reader link (type_text body.content_type) body.bytes (Ok (Some bytes)) after
+      → wire ≡ length body.bytes → note ≡ no_note → closed ≡ remove opened read → TakesAt old read link body (Ok (Finished read bytes wire note)) closed
   last_takes after bytes wire note closed takes wire_is note_is closed_is =
       (held, (sym held_is, record { answer = Ok tt; after = after; accepts = takes.0; step = of (count_left after.links) takes.1 }))
     where
       gone_it : closed ≡ remove old read
       gone_it = closed_is ∙ ap (λ (m : Reads). remove m read) opened_is ∙ gone_put old read other
 
-      of : (k : ℕ) → Some bytes ≡ bytes_if after k → fetch_done old read link (length body) (with_reader held after) k ≡ (Ok (Finished read bytes wire note), closed)
+      of : (k : ℕ) → Some bytes ≡ bytes_if after k → fetch_done old read link (length body.bytes) (with_reader held after) k ≡ (Ok (Finished read bytes wire note), closed)
       of zero t = let b : bytes ≡ bytes_read after = cc in rw (b, wire_is, note_is, gone_it) refl
       of (suc k) t = absurd cc
 
@@ -128,17 +130,17 @@ module _ (old : Reads) (read link : ℕ) (body : List ℕ) (held other : OpenRea
       ∙ put_same old read held (sym held_is)
 
   -- whatever the reader's refusal is, it is as it was
-  pub reader_same : (error : ClientError) (after : Reading) → Answered {T = Option (List ℕ)} (Err error) (λ r. Takes held.reader link [] body r after) (after ≡ held.reader) → after ≡ held.reader
+  pub reader_same : (error : ClientError) (after : Reading) → Answered {T = Option (List ℕ)} (Err error) (λ r. Takes held.reader link (type_text body.content_type) body.bytes r after) (after ≡ held.reader) → after ≡ held.reader
   reader_same error after h = of (refusal_of error) h
     where
-      of : (o : Option Refusal) → AnsweredErr {T = Option (List ℕ)} o (λ r. Takes held.reader link [] body r after) (after ≡ held.reader) → after ≡ held.reader
+      of : (o : Option Refusal) → AnsweredErr {T = Option (List ℕ)} o (λ r. Takes held.reader link (type_text body.content_type) body.bytes r after) (after ≡ held.reader) → after ≡ held.reader
       of (Some why) g = g.1
       of None g = g
 
-  pub none_takes : (error : ClientError) (after : Reading) (closed : Reads) → Answered {T = Option (List ℕ)} (Err error) (λ r. Takes held.reader link [] body r after) (after ≡ held.reader) → closed ≡ insert opened read (with_reader held after)
+  pub none_takes : (error : ClientError) (after : Reading) (closed : Reads) → Answered {T = Option (List ℕ)} (Err error) (λ r. Takes held.reader link (type_text body.content_type) body.bytes r after) (after ≡ held.reader) → closed ≡ insert opened read (with_reader held after)
       → Answered {T = Reply} (Err error) (λ r. TakesAt old read link body r closed) (closed ≡ old)
   none_takes error after closed h closed_is =
-      failed_so (λ r. Takes held.reader link [] body r after) (λ r. TakesAt old read link body r closed) (refusal_of error)
+      failed_so (λ r. Takes held.reader link (type_text body.content_type) body.bytes r after) (λ r. TakesAt old read link body r closed) (refusal_of error)
       (λ why g. (
         held,
         (
@@ -161,9 +163,9 @@ left_is reads read left held is w =
 
 -- ---- plans
 
-links_open : (s : State) (plan : SecondPlan) (range : Option (Range ℕ _F)) (at : ℕ) (ls : List PlannedLink) → 0 < length ls → open_links s plan range at ls ≡ (Ok (Planned s.next V1 plan.offset_into_first_range plan.terms ls), record s { reads = insert s.reads s.next (record { reader = reading_of plan range; stamp = at }); next = s.next + 1 })
-links_open s plan range at [] lt = absurd (omega (arith, lt))
-links_open s plan range at (l ∷ ls) lt = refl
+links_open : (s : State) (version : PlanVersion) (plan : SecondPlan) (range : Option (Range ℕ _F)) (at : ℕ) (ls : List PlannedLink) → 0 < length ls → open_links s version plan range at ls ≡ (Ok (Planned s.next version plan.offset_into_first_range plan.terms ls), record s { reads = insert s.reads s.next (record { reader = reading_of plan range; stamp = at }); next = s.next + 1 })
+links_open s version plan range at [] lt = absurd (omega (arith, lt))
+links_open s version plan range at (l ∷ ls) lt = refl
 
 pub free_is : (n : ℕ) → (n ≡ 18446744073709551615 → ⊥) → used_up n ≡ false
 free_is n other = of (used_up n) refl
@@ -176,41 +178,41 @@ pub some_of : {X : Type 0} (xs : List X) (empty : Bool) → empty ≡ eqb (lengt
 some_of [] empty is not = let f : true ≡ false = sym is ∙ not in absurd cc
 some_of (x ∷ xs) empty is not = omega arith
 
-pub opens : (s : State) (plan : SecondPlan) (range : Option (Range ℕ _F)) (at : ℕ) (links : List PlannedLink) (reader : Reading) (reads : Reads) → used_up s.next ≡ false → (can_open plan ≡ true) × (reader ≡ reading_of plan range) → links ≡ planned_links plan → 0 < length links
-    → reads ≡ insert s.reads s.next (record { reader = reader; stamp = at }) → open_plan s plan range at ≡ (Ok (Planned s.next V1 plan.offset_into_first_range plan.terms links), record s { reads = reads; next = s.next + 1 })
-opens s plan range at links reader reads free can is some put =
-    ap (λ (b : Bool). cond b (refuses s InvalidArguments) (cond (can_open plan) (open_links s plan range at (planned_links plan)) (refuses s InvalidArguments))) free
-    ∙ ap (λ (b : Bool). cond b (open_links s plan range at (planned_links plan)) (refuses s InvalidArguments)) can.0
-    ∙ ap (open_links s plan range at) (sym is)
-    ∙ links_open s plan range at links some
-    ∙ ap (λ (m : Reads). (Ok (Planned s.next V1 plan.offset_into_first_range plan.terms links), record s { reads = m; next = s.next + 1 })) (sym (put ∙ ap (λ (r : Reading). insert s.reads s.next (record { reader = r; stamp = at })) can.1))
+pub opens : (s : State) (version : PlanVersion) (plan : SecondPlan) (range : Option (Range ℕ _F)) (at : ℕ) (links : List PlannedLink) (reader : Reading) (reads : Reads) → used_up s.next ≡ false → (can_open plan ≡ true) × (reader ≡ reading_of plan range) → links ≡ planned_links plan → 0 < length links
+    → reads ≡ insert s.reads s.next (record { reader = reader; stamp = at }) → open_plan s version plan range at ≡ (Ok (Planned s.next version plan.offset_into_first_range plan.terms links), record s { reads = reads; next = s.next + 1 })
+opens s version plan range at links reader reads free can is some put =
+    ap (λ (b : Bool). cond b (refuses s InvalidArguments) (cond (can_open plan) (open_links s version plan range at (planned_links plan)) (refuses s InvalidArguments))) free
+    ∙ ap (λ (b : Bool). cond b (open_links s version plan range at (planned_links plan)) (refuses s InvalidArguments)) can.0
+    ∙ ap (open_links s version plan range at) (sym is)
+    ∙ links_open s version plan range at links some
+    ∙ ap (λ (m : Reads). (Ok (Planned s.next version plan.offset_into_first_range plan.terms links), record s { reads = m; next = s.next + 1 })) (sym (put ∙ ap (λ (r : Reading). insert s.reads s.next (record { reader = r; stamp = at })) can.1))
 
 abbrev ok_reply : Reply → Result Reply Refusal
 ok_reply reply = Ok reply
 
 -- a refusal leaves the state
-links_err : (s t : State) (plan : SecondPlan) (range : Option (Range ℕ _F)) (at : ℕ) (why : Refusal) (ls : List PlannedLink) → open_links s plan range at ls ≡ (Err why, t) → t ≡ s
-links_err s t plan range at why [] e = let f : ok_reply (Finished s.next [] 0 no_note) ≡ Err why = ap (λ (o : Outcome). o.0) e in absurd cc
-links_err s t plan range at why (l ∷ ls) e = let f : ok_reply (Planned s.next V1 plan.offset_into_first_range plan.terms (l ∷ ls)) ≡ Err why = ap (λ (o : Outcome). o.0) e in absurd cc
+links_err : (s t : State) (version : PlanVersion) (plan : SecondPlan) (range : Option (Range ℕ _F)) (at : ℕ) (why : Refusal) (ls : List PlannedLink) → open_links s version plan range at ls ≡ (Err why, t) → t ≡ s
+links_err s t version plan range at why [] e = let f : ok_reply (Finished s.next [] 0 no_note) ≡ Err why = ap (λ (o : Outcome). o.0) e in absurd cc
+links_err s t version plan range at why (l ∷ ls) e = let f : ok_reply (Planned s.next version plan.offset_into_first_range plan.terms (l ∷ ls)) ≡ Err why = ap (λ (o : Outcome). o.0) e in absurd cc
 
-pub open_err : (s t : State) (plan : SecondPlan) (range : Option (Range ℕ _F)) (at : ℕ) (why : Refusal) → open_plan s plan range at ≡ (Err why, t) → t ≡ s
-open_err s t plan range at why e = of (used_up s.next) (can_open plan) e
+pub open_err : (s t : State) (version : PlanVersion) (plan : SecondPlan) (range : Option (Range ℕ _F)) (at : ℕ) (why : Refusal) → open_plan s version plan range at ≡ (Err why, t) → t ≡ s
+open_err s t version plan range at why e = of (used_up s.next) (can_open plan) e
   where
-    of : (b c : Bool) → cond b (refuses s InvalidArguments) (cond c (open_links s plan range at (planned_links plan)) (refuses s InvalidArguments)) ≡ (Err why, t) → t ≡ s
+    of : (b c : Bool) → cond b (refuses s InvalidArguments) (cond c (open_links s version plan range at (planned_links plan)) (refuses s InvalidArguments)) ≡ (Err why, t) → t ≡ s
     of true c h = sym (ap (λ (o : Outcome). o.1) h)
-    of false true h = links_err s t plan range at why (planned_links plan) h
+    of false true h = links_err s t version plan range at why (planned_links plan) h
     of false false h = sym (ap (λ (o : Outcome). o.1) h)
 
-module _ (m : StoreModel) (reads reads_after : Reads) (next next_after : ℕ) (file : List ℕ) (range : Option (Range ℕ _F)) (at : ℕ) (first : FirstPlan) (responds : Responds m file range at (Ok (Some first))) where
+module _ (m : StoreModel) (reads reads_after : Reads) (next next_after : ℕ) (version : PlanVersion) (file : List ℕ) (range : Option (Range ℕ _F)) (at : ℕ) (plan : SecondPlan) (responds : RespondsBy (answer_of version m.max_ranges at) m file range (Ok (Some plan))) where
   abbrev Opens : Result Reply Refusal → Type 0
-  Opens r = open_plan (state m reads next) (second_of first) range at ≡ (r, state m reads_after next_after)
+  Opens r = open_plan (state m reads next) version plan range at ≡ (r, state m reads_after next_after)
 
-  by : (r : Result Reply Refusal) → Opens r → PlansBy (state m reads next) file range at r (state m reads_after next_after)
-  by r h = record { answer = Ok (Some first); responds = responds; step = h }
+  by : (r : Result Reply Refusal) → Opens r → PlansBy (state m reads next) version file range at r (state m reads_after next_after)
+  by r h = record { answer = Ok (Some plan); responds = responds; step = h }
 
-  err_does : (o : Option Refusal) → AnsweredErr o Opens (state m reads_after next_after ≡ state m reads next) → DoesErr (PlansBy (state m reads next) file range at) (state m reads next) o (state m reads_after next_after)
+  err_does : (o : Option Refusal) → AnsweredErr o Opens (state m reads_after next_after ≡ state m reads next) → DoesErr (PlansBy (state m reads next) version file range at) (state m reads next) o (state m reads_after next_after)
   err_does None h = h
-  err_does (Some IOError) h = open_err (state m reads next) (state m reads_after next_after) (second_of first) range at IOError h
+  err_does (Some IOError) h = open_err (state m reads next) (state m reads_after next_after) version plan range at IOError h
   err_does (Some (FormatError f)) h = by (Err (FormatError f)) h
   err_does (Some InvalidRange) h = by (Err InvalidRange) h
   err_does (Some InvalidArguments) h = by (Err InvalidArguments) h
@@ -222,7 +224,7 @@ module _ (m : StoreModel) (reads reads_after : Reads) (next next_after : ℕ) (f
   err_does (Some CacheError) h = by (Err CacheError) h
   err_does (Some (HttpStatus n)) h = by (Err (HttpStatus n)) h
 
-  pub plan_does : (result : Result Reply ClientError) → Answered result Opens (state m reads_after next_after ≡ state m reads next) → Does (PlansBy (state m reads next) file range at) (state m reads next) result (state m reads_after next_after)
+  pub plan_does : (result : Result Reply ClientError) → Answered result Opens (state m reads_after next_after ≡ state m reads next) → Does (PlansBy (state m reads next) version file range at) (state m reads next) result (state m reads_after next_after)
   plan_does (Ok reply) h = by (Ok reply) h
   plan_does (Err e) h = err_does (refusal_of e) h
 

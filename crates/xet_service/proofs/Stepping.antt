@@ -1,47 +1,49 @@
 -- What an answer of each act keeps.
-use Rattle.std.proofs.Common.{◌≡◌, ◌∙◌, ℕ, zero, suc, ◌+◌, ◌-◌, ◌<◌, ◌≤◌, ◌⊎◌, inl, inr, true, false, Bool, cond, ◌&&◌, List, [], ◌∷◌, length, drop, slice_range, min, Option, Some, None, Result, Ok, Err, refl, sym, ap, subst, arith, eqb, eq-eqb, ltb, leb}
+use Rattle.std.proofs.Common.{◌≡◌, ◌∙◌, ℕ, zero, suc, ◌+◌, ◌-◌, ◌<◌, ◌≤◌, ◌⊎◌, inl, inr, true, false, Bool, cond, ◌&&◌, List, [], ◌∷◌, length, map, Option, Some, None, Result, Ok, Err, refl, sym, ap, subst, arith, eqb, eq-eqb}
 use Rattle.std.specs.List.{AllByRecursion}
 use Rattle.std.specs.FinMap.{get, insert, remove}
-use Rattle.std.proofs.lemmas.Bool.{eqb-true, ltb-true, leb-true}
-use Rattle.std.proofs.lemmas.List.{length-take, length-drop}
-use Rattle.memchr.specs.Find.{OccursAt}
-use Rattle.xet_types.specs.Ranges.{last_place, file_range_of}
-use Rattle.xet_types.specs.Records.{second_of}
+use Rattle.std.proofs.lemmas.Bool.{eqb-true}
+use Rattle.xet_types.specs.Ranges.{last_place}
 use Rattle.xet_types.specs.declared.error.Refusal.{Refusal}
 use Rattle.xet_types.specs.declared.error.Refusal.TheVariants.{FormatError, InvalidRange, InvalidArguments, XORBNotFound, PresignedUrlExpirationError, Other}
 use Rattle.xet_types.specs.declared.error.FormatFault.TheVariants as faults
+use Rattle.xet_types.specs.Records.{SecondPlan}
 use Rattle.xet_types.specs.declared.range.Range.{Range}
 use Rattle.xet_types.specs.declared.range._F.{_F}
 use Rattle.xet_types.specs.declared.record.XorbReconstructionTerm.{XorbReconstructionTerm}
 use Rattle.xet_types.specs.declared.record.XorbRangeDescriptor.{XorbRangeDescriptor}
 use Rattle.xet_shard.specs.declared.listing.Segment.{Segment}
 use Rattle.xet_plan.specs.Places.{Interval}
-use Rattle.xet_xorb.specs.XorbBytes.{xorb_bytes}
 use Rattle.xet_plan.specs.Plans.{PlanModel}
 use Rattle.xet_store.specs.StoreModel.{StoreModel, Chunks, stored, known_of, IsSound}
-use Rattle.xet_store.specs.Commands.{hide_file, delete_xorb, set_expiration}
-use Rattle.xet_store.specs.Questions.{of_xorb, file_size, file_data}
+use Rattle.xet_store.specs.Commands.{hide_file, delete_xorb, set_expiration, set_max_ranges, set_dedup_expiration, drop_dedup}
+use Rattle.xet_store.specs.TermData.{is_expired}
+use Rattle.xet_store.specs.Questions.{file_size, file_data, dedup_answer, xorb_hashes}
+use Rattle.xet_store.specs.Lists.{shard_hashes, file_entries}
+use Rattle.xet_store.specs.Checks.{checked, integrity, reachable, readable}
 use Rattle.xet_store.specs.Plans.{Serves}
-use Rattle.xet_store.specs.Responses.{first_of, response_of}
+use Rattle.xet_store.specs.Responses.{response_by}
 use Rattle.xet_service.specs.declared.step.Act.{Act}
-use Rattle.xet_service.specs.declared.step.Act.TheVariants.{UploadXorb, UploadShard, Plan, Fetch, Abandon, HideFile, DeleteShard, DeleteXorb, SetExpiration, FileSize, FileData}
+use Rattle.xet_service.specs.declared.step.Act.TheVariants.{UploadXorb, UploadShard, Plan, Fetch, Abandon, HideFile, DeleteShard, DeleteXorb, SetExpiration, SetMaxRanges, FileSize, FileData, SetDedupExpiration, DedupQuery, RemoveDedup, ListXorbs, ListShards, ListFiles, CheckIntegrity, CheckReachable, CheckReadable, InsertRandomXorb}
 use Rattle.xet_service.specs.declared.step.PlanVersion.{PlanVersion}
-use Rattle.xet_service.specs.declared.step.PlanVersion.TheVariants.{V1}
 use Rattle.xet_service.specs.declared.reply.PlannedLink.{PlannedLink}
 use Rattle.xet_service.specs.declared.reply.Reply.{Reply}
-use Rattle.xet_service.specs.declared.reply.Reply.TheVariants.{Uploaded, ShardTaken, NoPlan, Done, Planned, Fetched, Finished, Size, Data}
+use Rattle.xet_service.specs.declared.reply.Reply.TheVariants.{Uploaded, ShardTaken, NoPlan, Done, Planned, Fetched, Finished, NoShard, ShardBytes, Size, Data, Hashes, Files, Random}
 use Rattle.xet_service.specs.declared.read.OpenRead.{OpenRead}
 use Rattle.xet_service.specs.declared.reader.link.ReadLink.{ReadLink}
-use Rattle.xet_service.specs.Bodies.{body_of}
-use Rattle.xet_service.specs.Reading.{Reading, left_link, count_left, only_range, take_link, bytes_in, multipart_type, IsOne, BringsOne, BringsPlain, Brings as BodyBrings, BringsTo, Gives, Accepts, bytes_read}
+use Rattle.xet_service.specs.Bodies.{Body, type_text, all_lie_in, bytes_at, Sends, SendsOf, SendsStored, IsBodyOf}
+use Rattle.xet_service.specs.Links.{answer_of}
+use Rattle.xet_service.specs.Reading.{Reading, left_link, count_left, take_link, AreAllWhole, HasParts, Brings as BodyBrings, BringsTo, Gives, Accepts, bytes_read}
 use Rattle.xet_service.specs.ReadingPlans.{can_open, reading_of}
-use Rattle.xet_service.specs.World.{State, Reads, HasOneRange, IsInOrder}
-use Rattle.xet_service.specs.Steps.{Outcome, ReadsOutcome, refuses, keeps_reads, no_note, used_up, read_of, opened, open_links, open_plan, plan_step, fetch_done, fetch_taken, with_reader, TakesBody, FetchesBody, FetchesRange, FetchesIf, FetchesLink, FetchesRead, Fetches, is_expired, abandon_read, abandon_step, map_ok, asks, was_done, Commands, PlansBy, Acts}
-use Rattle.xet_service.specs.Causes.{HasCause, PlansNothing, IsLeft, FetchesLeft, FetchesStored, FetchesBytes}
+use Rattle.xet_service.specs.World.{State, Reads, IsOrderly, IsInOrder}
+use Rattle.xet_service.specs.Steps.{Outcome, ReadsOutcome, refuses, keeps_reads, no_note, used_up, read_of, opened, open_links, open_plan, plan_step, fetch_done, fetch_taken, with_reader, asked_bytes, TakesBody, FetchesBody, FetchesSent, FetchesIf, FetchesLink, FetchesRead, Fetches, abandon_read, abandon_step, map_ok, asks, was_done, Commands, PlansBy, Acts, shard_reply}
+use Rattle.xet_service.specs.Causes.{HasCause, PlansNothing, IsLeft, FetchesLeft, FetchesStored, FetchesBytes, SetsNone}
 use Rattle.xet_service.specs.Headline.{HoldsMet, Brings}
 use Rattle.xet_service.proofs.Planned.{answered_links, covers, once}
-use Rattle.xet_service.proofs.Left.{by_put, by_gone, other_left, some_left, ranges_stay, one_range}
-use Rattle.xet_service.proofs.Causing.{Reached, Says, plan_says, xorb_refused, shard_refused, never_refused, shard_kept, size_refused, data_refused}
+use Rattle.xet_service.proofs.Left.{by_put, by_gone, other_left, some_left, ranges_stay, left_orderly}
+use Rattle.xet_service.proofs.PlanRuns.{same_terms, same_offset}
+use Rattle.xet_service.proofs.Parted.{parts_once, written_parts}
+use Rattle.xet_service.proofs.Causing.{Reached, Says, plan_says, xorb_refused, shard_refused, never_refused, shard_kept, size_refused, data_refused, max_kept, check_refused, generated_refused}
 
 abbrev pub ok_reply : Reply → Result Reply Refusal
 ok_reply reply = Ok reply
@@ -55,11 +57,11 @@ some_read r = Some r
 abbrev some_link : ReadLink → Option ReadLink
 some_link l = Some l
 
--- What a plan that a store answers is: it gives a read, whose links have one range each.
+-- What a plan that a store answers is: it gives a read, the ranges of each of whose links are in order.
 pub record PlanFacts : Type 0 where
-  pub opens : (store : StoreModel) (segments : List Segment) (range : Option (Range ℕ _F)) (clip : Interval) (plan : PlanModel) (at : ℕ) → Serves (known_of store) segments range clip plan → can_open (second_of (first_of at plan)) ≡ true
-  pub of_one : (store : StoreModel) (segments : List Segment) (range : Option (Range ℕ _F)) (clip : Interval) (plan : PlanModel) (at : ℕ) → Serves (known_of store) segments range clip plan → IsSound store
-      → AllByRecursion HasOneRange (reading_of (second_of (first_of at plan)) range).links
+  pub opens : (version : PlanVersion) (max : ℕ) (store : StoreModel) (segments : List Segment) (range : Option (Range ℕ _F)) (clip : Interval) (plan : PlanModel) (at : ℕ) → Serves (known_of store) segments range clip plan → can_open (answer_of version max at plan) ≡ true
+  pub orderly : (version : PlanVersion) (max : ℕ) (store : StoreModel) (segments : List Segment) (range : Option (Range ℕ _F)) (clip : Interval) (plan : PlanModel) (at : ℕ) → Serves (known_of store) segments range clip plan → IsSound store
+      → AllByRecursion IsOrderly (reading_of (answer_of version max at plan) range).links
 
 -- the fetch of this link gave a reply that brings it, or its read was abandoned
 abbrev pub IsEnded : Act → ℕ → ℕ → Result Reply Refusal → Type 0
@@ -68,7 +70,7 @@ IsEnded act read link result = ((act ≡ Fetch read link) × ((reply : Reply) ×
 -- what an act's answer and the state after it keep
 pub record Kept (s : State) (at : ℕ) (act : Act) (result : Result Reply Refusal) (t : State) : Type 0 where
   pub links : (version : PlanVersion) (file : List ℕ) (range : Option (Range ℕ _F)) (read : ℕ) (of : PlanVersion) (offset : ℕ) (terms : List XorbReconstructionTerm) (ls : List PlannedLink)
-      → act ≡ Plan version file range → result ≡ ok_reply (Planned read of offset terms ls) → HoldsMet s.store file range at offset terms ls
+      → act ≡ Plan version file range → result ≡ ok_reply (Planned read of offset terms ls) → HoldsMet s.store version file range at of offset terms ls
   pub refused : (why : Refusal) → result ≡ err_why why → t ≡ s
   pub cause : (why : Refusal) → result ≡ err_why why → HasCause s at act why
   pub no_plan : result ≡ ok_reply NoPlan → PlansNothing s act
@@ -93,7 +95,7 @@ refused_kept s at act why in_order cause gone = record {
 same_order : (s t : State) → t.reads ≡ s.reads → t.next ≡ s.next → IsInOrder s → IsInOrder t
 same_order s t reads next o = record {
   numbered = λ n r e. subst (λ (k : ℕ). n < k) (sym next) (o.numbered n r (ap (λ (m : Reads). get m n) (sym reads) ∙ e));
-  of_one = λ n r e. o.of_one n r (ap (λ (m : Reads). get m n) (sym reads) ∙ e);
+  orderly = λ n r e. o.orderly n r (ap (λ (m : Reads). get m n) (sym reads) ∙ e);
 }
 
 -- ---- the store's commands and questions
@@ -167,10 +169,16 @@ module _ (facts : PlanFacts) (s : State) (at : ℕ) (version : PlanVersion) (fil
     no_plan = λ e. absurd cc;
     left = λ read link l. inl (record { held = l.held; it = l.it; open_it = l.open_it; left = l.left });
     gone = λ read link a g. absurd cc;
-    in_order = record { numbered = λ n r e. let below : n < s.next = in_order.numbered n r e in omega (arith, below); of_one = in_order.of_one };
+    in_order = record { numbered = λ n r e. let below : n < s.next = in_order.numbered n r e in omega (arith, below); orderly = in_order.orderly };
   }
 
-  met : (plan : PlanModel) → Reached s.store file range plan → HoldsMet s.store file range at plan.offset_into_first_range plan.terms (answered_links at plan)
+  abbrev answer : PlanModel → SecondPlan
+  answer plan = answer_of version s.store.max_ranges at plan
+
+  abbrev links_at : PlanModel → List PlannedLink
+  links_at plan = answered_links version s.store.max_ranges at plan
+
+  met : (plan : PlanModel) → Reached s.store file range plan → HoldsMet s.store version file range at version (answer plan).offset_into_first_range (answer plan).terms (links_at plan)
   met plan h = record {
     segments = h.segments;
     clip = h.clip;
@@ -179,32 +187,37 @@ module _ (facts : PlanFacts) (s : State) (at : ℕ) (version : PlanVersion) (fil
     reached = h.reached;
     agree = h.serves.faultless;
     is_plan = h.serves.planned;
-    of_terms = refl;
-    of_offset = refl;
+    of_version = refl;
+    of_terms = same_terms version s.store.max_ranges at plan;
+    of_offset = same_offset version s.store.max_ranges at plan;
     of_links = refl;
-    covers = covers h.serves.planned at;
-    once = once h.serves.planned at;
+    covers = covers version s.store.max_ranges at h.serves.planned;
+    once = once version s.store.max_ranges at h.serves.planned;
   }
 
-  links_met : (plan : PlanModel) (l : PlannedLink) (ls : List PlannedLink) → Reached s.store file range plan → answered_links at plan ≡ l ∷ ls
+  links_met : (plan : PlanModel) (l : PlannedLink) (ls : List PlannedLink) → Reached s.store file range plan → links_at plan ≡ l ∷ ls
       → (version' : PlanVersion) (file' : List ℕ) (range' : Option (Range ℕ _F)) (read : ℕ) (of : PlanVersion) (offset : ℕ) (terms : List XorbReconstructionTerm) (ks : List PlannedLink)
-      → Plan version file range ≡ Plan version' file' range' → ok_reply (Planned s.next V1 plan.offset_into_first_range plan.terms (l ∷ ls)) ≡ ok_reply (Planned read of offset terms ks) → HoldsMet s.store file' range' at offset terms ks
+      → Plan version file range ≡ Plan version' file' range' → ok_reply (Planned s.next version (answer plan).offset_into_first_range (answer plan).terms (l ∷ ls)) ≡ ok_reply (Planned read of offset terms ks) → HoldsMet s.store version' file' range' at of offset terms ks
   links_met plan l ls h is version' file' range' read of offset terms ks a e =
+      let v : version ≡ version' = cc in
       let f : file ≡ file' = cc in
       let g : range ≡ range' = cc in
-      let o : plan.offset_into_first_range ≡ offset = cc in
-      let t : plan.terms ≡ terms = cc in
+      let w : version ≡ of = cc in
+      let o : (answer plan).offset_into_first_range ≡ offset = cc in
+      let t : (answer plan).terms ≡ terms = cc in
       let k : l ∷ ls ≡ ks = cc in
-      subst (λ (x : List ℕ). HoldsMet s.store x range' at offset terms ks) f
-      (subst (λ (x : Option (Range ℕ _F)). HoldsMet s.store file x at offset terms ks) g
-      (subst (λ (x : ℕ). HoldsMet s.store file range at x terms ks) o
-      (subst (λ (x : List XorbReconstructionTerm). HoldsMet s.store file range at plan.offset_into_first_range x ks) t
-      (subst (λ (x : List PlannedLink). HoldsMet s.store file range at plan.offset_into_first_range plan.terms x) (is ∙ k) (met plan h)))))
+      subst (λ (x : PlanVersion). HoldsMet s.store x file' range' at of offset terms ks) v
+      (subst (λ (x : List ℕ). HoldsMet s.store version x range' at of offset terms ks) f
+      (subst (λ (x : Option (Range ℕ _F)). HoldsMet s.store version file x at of offset terms ks) g
+      (subst (λ (x : PlanVersion). HoldsMet s.store version file range at x offset terms ks) w
+      (subst (λ (x : ℕ). HoldsMet s.store version file range at version x terms ks) o
+      (subst (λ (x : List XorbReconstructionTerm). HoldsMet s.store version file range at version (answer plan).offset_into_first_range x ks) t
+      (subst (λ (x : List PlannedLink). HoldsMet s.store version file range at version (answer plan).offset_into_first_range (answer plan).terms x) (is ∙ k) (met plan h)))))))
 
-  opened_kept : (plan : PlanModel) (l : PlannedLink) (ls : List PlannedLink) → Reached s.store file range plan → answered_links at plan ≡ l ∷ ls
-      → PlanKept (Ok (Planned s.next V1 plan.offset_into_first_range plan.terms (l ∷ ls)), opened s (read_of (second_of (first_of at plan)) range at))
+  opened_kept : (plan : PlanModel) (l : PlannedLink) (ls : List PlannedLink) → Reached s.store file range plan → links_at plan ≡ l ∷ ls
+      → PlanKept (Ok (Planned s.next version (answer plan).offset_into_first_range (answer plan).terms (l ∷ ls)), opened s (read_of (answer plan) range at))
   opened_kept plan l ls h is =
-      let new : OpenRead = read_of (second_of (first_of at plan)) range at in
+      let new : OpenRead = read_of (answer plan) range at in
       record {
         links = links_met plan l ls h is;
         refused = λ why e. absurd cc;
@@ -220,19 +233,19 @@ module _ (facts : PlanFacts) (s : State) (at : ℕ) (version : PlanVersion) (fil
         in_order = record {
           numbered = λ n r e.
               by_put (λ (o : Option OpenRead). o ≡ some_read r → n < s.next + 1) s.reads s.next new n (λ same g. omega (arith, same)) (λ apart g. let below : n < s.next = in_order.numbered n r g in omega (arith, below)) e;
-          of_one = λ n r e.
-              by_put (λ (o : Option OpenRead). o ≡ some_read r → AllByRecursion HasOneRange r.reader.links) s.reads s.next new n
-              (λ same g. let is_new : new ≡ r = cc in subst (λ (q : OpenRead). AllByRecursion HasOneRange q.reader.links) is_new (facts.of_one s.store h.segments range h.clip plan at h.serves sound)) (λ apart g. in_order.of_one n r g) e;
+          orderly = λ n r e.
+              by_put (λ (o : Option OpenRead). o ≡ some_read r → AllByRecursion IsOrderly r.reader.links) s.reads s.next new n
+              (λ same g. let is_new : new ≡ r = cc in subst (λ (q : OpenRead). AllByRecursion IsOrderly q.reader.links) is_new (facts.orderly version s.store.max_ranges s.store h.segments range h.clip plan at h.serves sound)) (λ apart g. in_order.orderly n r g) e;
         };
       }
 
-  links_kept : (plan : PlanModel) (ls : List PlannedLink) → Reached s.store file range plan → answered_links at plan ≡ ls → PlanKept (open_links s (second_of (first_of at plan)) range at ls)
+  links_kept : (plan : PlanModel) (ls : List PlannedLink) → Reached s.store file range plan → links_at plan ≡ ls → PlanKept (open_links s version (answer plan) range at ls)
   links_kept plan [] h is = empty_kept
   links_kept plan (l ∷ ls) h is = opened_kept plan l ls h is
 
-  planned_kept : (plan : PlanModel) → Reached s.store file range plan → PlanKept (open_plan s (second_of (first_of at plan)) range at)
+  planned_kept : (plan : PlanModel) → Reached s.store file range plan → PlanKept (open_plan s version (answer plan) range at)
   planned_kept plan h =
-      elim (used_up s.next) as (λ b. used_up s.next ≡ b → PlanKept (cond b (refuses s InvalidArguments) (cond (can_open (second_of (first_of at plan))) (open_links s (second_of (first_of at plan)) range at (answered_links at plan)) (refuses s InvalidArguments)))) [
+      elim (used_up s.next) as (λ b. used_up s.next ≡ b → PlanKept (cond b (refuses s InvalidArguments) (cond (can_open (answer plan)) (open_links s version (answer plan) range at (links_at plan)) (refuses s InvalidArguments)))) [
         | true ↦ λ e. plan_refused InvalidArguments (inl (record {
           plan = record { version = version; file = file; range = range; is = refl; segments = h.segments; live = h.live };
           clip = h.clip;
@@ -240,56 +253,22 @@ module _ (facts : PlanFacts) (s : State) (at : ℕ) (version : PlanVersion) (fil
           faultless = h.serves.faultless;
           used = e;
         }))
-        | false ↦ λ e. subst (λ (b : Bool). PlanKept (cond b (open_links s (second_of (first_of at plan)) range at (answered_links at plan)) (refuses s InvalidArguments))) (sym (facts.opens s.store h.segments range h.clip plan at h.serves)) (links_kept plan (answered_links at plan) h refl)
+        | false ↦ λ e. subst (λ (b : Bool). PlanKept (cond b (open_links s version (answer plan) range at (links_at plan)) (refuses s InvalidArguments))) (sym (facts.opens version s.store.max_ranges s.store h.segments range h.clip plan at h.serves)) (links_kept plan (links_at plan) h refl)
       ] refl
 
-  answer_kept : (r : Result (Option PlanModel) Refusal) → Says s at version file range r → PlanKept (plan_step s range at (response_of at r))
+  answer_kept : (r : Result (Option PlanModel) Refusal) → Says s at version file range r → PlanKept (plan_step s version range at (response_by answer r))
   answer_kept (Err why) h = plan_refused why h
   answer_kept (Ok None) h = none_kept h
   answer_kept (Ok (Some plan)) h = planned_kept plan h
 
-  planned : (result : Result Reply Refusal) (t : State) → PlansBy s file range at result t → Kept s at (Plan version file range) result t
+  planned : (result : Result Reply Refusal) (t : State) → PlansBy s version file range at result t → Kept s at (Plan version file range) result t
   planned result t h =
-      subst PlanKept (ap (plan_step s range at) (sym h.responds.response) ∙ h.step) (answer_kept h.responds.answer (plan_says s at version file range h.responds.answer h.responds.plans))
+      subst PlanKept (ap (plan_step s version range at) (sym h.responds.response) ∙ h.step) (answer_kept h.responds.answer (plan_says s at version file range h.responds.answer h.responds.plans))
 
-pub plan_kept : PlanFacts → (s : State) (at : ℕ) (version : PlanVersion) (file : List ℕ) (range : Option (Range ℕ _F)) → IsInOrder s → (result : Result Reply Refusal) (t : State) → PlansBy s file range at result t → Kept s at (Plan version file range) result t
+pub plan_kept : PlanFacts → (s : State) (at : ℕ) (version : PlanVersion) (file : List ℕ) (range : Option (Range ℕ _F)) → IsInOrder s → (result : Result Reply Refusal) (t : State) → PlansBy s version file range at result t → Kept s at (Plan version file range) result t
 plan_kept facts s at version file range o result t h = planned facts s at version file range o h.responds.sound result t h
 
 -- ---- fetches
-
-pub no_parts : (place : ℕ) → OccursAt [] multipart_type place → ⊥
-no_parts place h = let no : ⊥ = omega (arith, h.fits) in no
-
--- what a body that is there is
-pub record IsBody (r : Range ℕ _F) (chunks : Chunks) (body : List ℕ) : Type 0 where
-  pub some : r.start < r.end
-  pub inside : r.end ≤ length (xorb_bytes chunks)
-  pub slice : body ≡ slice_range (xorb_bytes chunks) r.start r.end
-
-pub body_there : (r : Range ℕ _F) (chunks : Chunks) (body : List ℕ) → body_of r chunks ≡ Ok body → IsBody r chunks body
-body_there r chunks body e = of (ltb r.start r.end) (leb r.end (length (xorb_bytes chunks))) refl refl e
-  where
-    of : (a b : Bool) → ltb r.start r.end ≡ a → leb r.end (length (xorb_bytes chunks)) ≡ b → cond (a && b) (Ok (slice_range (xorb_bytes chunks) r.start r.end)) (Err InvalidRange) ≡ Ok body → IsBody r chunks body
-    of true true x y g = record { some = ltb-true r.start r.end x; inside = leb-true r.end (length (xorb_bytes chunks)) y; slice = let same : slice_range (xorb_bytes chunks) r.start r.end ≡ body = cc in sym same }
-    of true false x y g = absurd cc
-    of false b x y g = absurd cc
-
-pub body_past : (r : Range ℕ _F) (chunks : Chunks) (why : Refusal) → body_of r chunks ≡ Err why → InvalidRange ≡ why
-body_past r chunks why e = of (ltb r.start r.end && leb r.end (length (xorb_bytes chunks))) e
-  where
-    of : (b : Bool) → cond b (Ok (slice_range (xorb_bytes chunks) r.start r.end)) (Err InvalidRange) ≡ Err why → InvalidRange ≡ why
-    of true g = absurd cc
-    of false g = cc
-
--- the body of a range is as long as the range
-pub body_sized : (range : XorbRangeDescriptor) (chunks : Chunks) (body : List ℕ) → range.bytes.end < last_place → body_of (file_range_of range.bytes) chunks ≡ Ok body → length body ≡ bytes_in range.bytes
-body_sized range chunks body below e =
-    let b = body_there (file_range_of range.bytes) chunks body e in
-    let r = file_range_of range.bytes in
-    let text = xorb_bytes chunks in
-    let cut : length body ≡ min (r.end - r.start) (length (drop r.start text)) = ap (λ (t : List ℕ). length t) b.slice ∙ length-take (r.end - r.start) (drop r.start text) in
-    let rest = length-drop r.start text in
-    omega (arith, cut, rest, b.some, b.inside, below)
 
 module _ (s : State) (at read link : ℕ) (in_order : IsInOrder s) where
   abbrev with_reads : Reads → State
@@ -350,7 +329,7 @@ module _ (s : State) (at read link : ℕ) (in_order : IsInOrder s) where
       gone = λ n k a g. absurd (g (same_left n k a here));
       in_order = record {
         numbered = λ n q e. by_gone (λ (o : Option OpenRead). o ≡ some_read q → n < s.next) s.reads read n (λ same g. absurd cc) (λ apart g. in_order.numbered n q g) e;
-        of_one = λ n q e. by_gone (λ (o : Option OpenRead). o ≡ some_read q → AllByRecursion HasOneRange q.reader.links) s.reads read n (λ same g. absurd cc) (λ apart g. in_order.of_one n q g) e;
+        orderly = λ n q e. by_gone (λ (o : Option OpenRead). o ≡ some_read q → AllByRecursion IsOrderly q.reader.links) s.reads read n (λ same g. absurd cc) (λ apart g. in_order.orderly n q g) e;
       };
     }
 
@@ -372,8 +351,8 @@ module _ (s : State) (at read link : ℕ) (in_order : IsInOrder s) where
           gone = λ n k a g. absurd (g (same_left n k a here));
           in_order = record {
             numbered = λ n q e. by_put (λ (o : Option OpenRead). o ≡ some_read q → n < s.next) s.reads read new n (λ same g. subst (λ (i : ℕ). i < s.next) (sym same) (in_order.numbered read r open_it)) (λ apart g. in_order.numbered n q g) e;
-            of_one = λ n q e. by_put (λ (o : Option OpenRead). o ≡ some_read q → AllByRecursion HasOneRange q.reader.links) s.reads read new n
-                (λ same g. let is_new : new ≡ q = cc in subst (λ (p : OpenRead). AllByRecursion HasOneRange p.reader.links) is_new (ranges_stay r.reader.links link got (in_order.of_one read r open_it))) (λ apart g. in_order.of_one n q g) e;
+            orderly = λ n q e. by_put (λ (o : Option OpenRead). o ≡ some_read q → AllByRecursion IsOrderly q.reader.links) s.reads read new n
+                (λ same g. let is_new : new ≡ q = cc in subst (λ (p : OpenRead). AllByRecursion IsOrderly p.reader.links) is_new (ranges_stay r.reader.links link got (in_order.orderly read r open_it))) (λ apart g. in_order.orderly n q g) e;
           };
         }
 
@@ -381,61 +360,58 @@ module _ (s : State) (at read link : ℕ) (in_order : IsInOrder s) where
     done_kept got wire zero e = ended_kept got wire e
     done_kept got wire (suc count) e = fetched_kept got wire (suc count)
 
-    module _ (range : XorbRangeDescriptor) (only : only_range l.ranges ≡ Some range) (below : range.bytes.end < last_place) (fresh : is_expired at r.stamp s.store.expiration ≡ false) (chunks : Chunks) (there : stored s.store l.hash ≡ Some chunks) where
+    module _ (order : IsOrderly l) (fresh : is_expired at r.stamp s.store.expiration ≡ false) (chunks : Chunks) (there : stored s.store l.hash ≡ Some chunks) where
       abbrev of_stored : FetchesStored s at (Fetch read link)
-      of_stored = record { fetch = fetched; fresh = fresh; chunks = chunks; there = there; range = range; only = only }
+      of_stored = record { fetch = fetched; fresh = fresh; chunks = chunks; there = there }
 
-      module _ (body : List ℕ) (body_is : body_of (file_range_of range.bytes) chunks ≡ Ok body) where
+      abbrev pieces : List (List ℕ)
+      pieces = map (bytes_at chunks) (asked_bytes l.ranges)
+
+      module _ (body : Body) (inside : all_lie_in chunks (asked_bytes l.ranges) ≡ true) (is_body : IsBodyOf chunks (asked_bytes l.ranges) body) where
         abbrev brings : FetchesBytes s at (Fetch read link)
-        brings = record { of = of_stored; bytes = body; there = body_is }
+        brings = record { of = of_stored; inside = inside }
 
-        -- a body of the store is as long as its range
-        sized : length body ≡ bytes_in range.bytes
-        sized = body_sized range chunks body below body_is
+        -- a body of the store has the bytes of the link's ranges as its parts
+        has : HasParts l.ranges (type_text body.content_type) body.bytes pieces
+        has = written_parts chunks l.ranges order.rises order.below inside body is_body
 
-        one_refused : (why : Refusal) → BringsOne IsOne range l.held body (Err why) → FetchKept (keeps_reads s.reads why)
-        one_refused Other h = absurd (h sized)
-        one_refused (FormatError faults.Xorb) h = left_refused (FormatError faults.Xorb) here (inr (record { brings = brings; broken = h }))
-        one_refused (FormatError faults.Body) h = left_refused (FormatError faults.Body) here (record { brings = brings; misfit = h })
-        one_refused why h = absurd h
+        same_parts : (p : List (List ℕ)) (got : List Chunks) → HasParts l.ranges (type_text body.content_type) body.bytes p → AreAllWhole pieces got → AreAllWhole p got
+        same_parts p got h whole = subst (λ (q : List (List ℕ)). AreAllWhole q got) (parts_once l.ranges (type_text body.content_type) body.bytes pieces p has h) whole
 
-        body_refused : (why : Refusal) → Gives r.reader.links link [] body (Err why) → FetchKept (keeps_reads s.reads why)
-        body_refused why h = of (subst (λ (o : Option ReadLink). BringsTo IsOne o [] body (Err why)) is h)
-          where
-            of : BodyBrings IsOne l [] body (Err why) → FetchKept (keeps_reads s.reads why)
-            of (inl p) = absurd (no_parts p.0.0 p.0.1)
-            of (inr p) = one_refused why (subst (λ (o : Option XorbRangeDescriptor). BringsPlain IsOne o l.held body (Err why)) only p.1)
+        same_pieces : (p : List (List ℕ)) (got : List Chunks) → HasParts l.ranges (type_text body.content_type) body.bytes p → AreAllWhole p got → AreAllWhole pieces got
+        same_pieces p got h whole = subst (λ (q : List (List ℕ)). AreAllWhole q got) (parts_once l.ranges (type_text body.content_type) body.bytes p pieces h has) whole
 
-        taken_kept : (answer : Result (Unit {0}) Refusal) (after : Reading) → Accepts r.reader link [] body answer after → FetchKept (fetch_taken s.reads read link (length body) r answer after)
+        link_refused : (why : Refusal) → BodyBrings l (type_text body.content_type) body.bytes (Err why) → FetchKept (keeps_reads s.reads why)
+        link_refused Other h = absurd (h pieces has)
+        link_refused (FormatError faults.Xorb) h = left_refused (FormatError faults.Xorb) here (inr (record { brings = brings; broken = λ got whole. h.none got (same_parts h.parts got h.has whole) }))
+        link_refused (FormatError faults.Body) h = left_refused (FormatError faults.Body) here (record { brings = brings; got = h.got; whole = same_pieces h.parts h.got h.has h.whole; misfit = h.misfit })
+        link_refused why h = absurd h
+
+        body_refused : (why : Refusal) → Gives r.reader.links link (type_text body.content_type) body.bytes (Err why) → FetchKept (keeps_reads s.reads why)
+        body_refused why h = link_refused why (subst (λ (o : Option ReadLink). BringsTo o (type_text body.content_type) body.bytes (Err why)) is h)
+
+        taken_kept : (answer : Result (Unit {0}) Refusal) (after : Reading) → Accepts r.reader link (type_text body.content_type) body.bytes answer after → FetchKept (fetch_taken s.reads read link (length body.bytes) r answer after)
         taken_kept (Err why) after h = body_refused why h.0
         taken_kept (Ok u) after h =
-            subst (λ (a : Reading). FetchKept (fetch_done s.reads read link (length body) (with_reader r a) (count_left a.links))) (sym h.1.1) (done_kept h.0 (length body) (count_left (take_link r.reader link h.0).links) refl)
+            subst (λ (a : Reading). FetchKept (fetch_done s.reads read link (length body.bytes) (with_reader r a) (count_left a.links))) (sym h.1.1) (done_kept h.0 (length body.bytes) (count_left (take_link r.reader link h.0).links) refl)
 
         body_kept : (result : Result Reply Refusal) (reads : Reads) → TakesBody s.reads read link r body result reads → FetchKept (result, reads)
         body_kept result reads h = subst FetchKept h.step (taken_kept h.answer h.after h.accepts)
 
-      past_kept : (a : Result (List ℕ) Refusal) (result : Result Reply Refusal) (reads : Reads) → body_of (file_range_of range.bytes) chunks ≡ a → FetchesBody s.reads read link r a result reads → FetchKept (result, reads)
-      past_kept (Ok body) result reads e h = body_kept body e result reads h
-      past_kept (Err why) result reads e h = subst FetchKept h (left_refused why here (subst (HasCause s at (Fetch read link)) (past_is why e) (inr (inl (record { of = of_stored; past = e ∙ ap Err (sym (past_is why e)) })))))
-        where
-          past_is : (w : Refusal) → body_of (file_range_of range.bytes) chunks ≡ Err w → InvalidRange ≡ w
-          past_is w g = body_past (file_range_of range.bytes) chunks w g
+      sent_kept : (a : Result Body Refusal) (result : Result Reply Refusal) (reads : Reads) → Sends chunks (asked_bytes l.ranges) a → FetchesBody s.reads read link r a result reads → FetchKept (result, reads)
+      sent_kept (Ok body) result reads e h = body_kept body e.0 e.1 result reads h
+      sent_kept (Err InvalidRange) result reads e h = subst FetchKept h (left_refused InvalidRange here (inr (inl (record { of = of_stored; past = e }))))
+      sent_kept (Err why) result reads e h = absurd e
 
-    stored_kept : (range : XorbRangeDescriptor) (o : Option Chunks) (result : Result Reply Refusal) (reads : Reads) → only_range l.ranges ≡ Some range → range.bytes.end < last_place → is_expired at r.stamp s.store.expiration ≡ false → stored s.store l.hash ≡ o
-        → FetchesBody s.reads read link r (of_xorb l.hash (body_of (file_range_of range.bytes)) o) result reads → FetchKept (result, reads)
-    stored_kept range None result reads only below fresh e h = subst FetchKept h (left_refused (XORBNotFound l.hash) here (inr (inr (record { fetch = fetched; fresh = fresh; hash_is = refl; unstored = e }))))
-    stored_kept range (Some chunks) result reads only below fresh e h = past_kept range only below fresh chunks e (body_of (file_range_of range.bytes) chunks) result reads refl h
-
-    ranged_kept : (o : Option XorbRangeDescriptor) (result : Result Reply Refusal) (reads : Reads) → only_range l.ranges ≡ o → HasOneRange l → is_expired at r.stamp s.store.expiration ≡ false → FetchesRange s.store s.reads read link r l.hash o result reads → FetchKept (result, reads)
-    ranged_kept None result reads e one fresh h = let f : None ≡ Some one.range = sym e ∙ ap only_range one.only in absurd cc
-    ranged_kept (Some range) result reads e one fresh h =
-        let f : Some range ≡ Some one.range = sym e ∙ ap only_range one.only in
-        let same : range ≡ one.range = cc in
-        stored_kept range (stored s.store l.hash) result reads e (subst (λ (q : XorbRangeDescriptor). q.bytes.end < last_place) (sym same) one.below) fresh refl h
+    stored_kept : (o : Option Chunks) (a : Result Body Refusal) (result : Result Reply Refusal) (reads : Reads) → IsOrderly l → is_expired at r.stamp s.store.expiration ≡ false → stored s.store l.hash ≡ o
+        → SendsOf l.hash (asked_bytes l.ranges) o a → FetchesBody s.reads read link r a result reads → FetchKept (result, reads)
+    stored_kept None a result reads order fresh e sent h =
+        subst FetchKept (subst (λ (x : Result Body Refusal). FetchesBody s.reads read link r x result reads) sent h) (left_refused (XORBNotFound l.hash) here (inr (inr (record { fetch = fetched; fresh = fresh; hash_is = refl; unstored = e }))))
+    stored_kept (Some chunks) a result reads order fresh e sent h = sent_kept order fresh chunks e a result reads sent h
 
     aged_kept : (b : Bool) (result : Result Reply Refusal) (reads : Reads) → is_expired at r.stamp s.store.expiration ≡ b → FetchesIf s.store s.reads read link r l b result reads → FetchKept (result, reads)
     aged_kept true result reads e h = subst FetchKept h (left_refused PresignedUrlExpirationError here (record { fetch = fetched; late = e }))
-    aged_kept false result reads e h = ranged_kept (only_range l.ranges) result reads refl (one_range r.reader.links link l (in_order.of_one read r open_it) is) e h
+    aged_kept false result reads e h = stored_kept (stored s.store l.hash) h.body result reads (left_orderly r.reader.links link l (in_order.orderly read r open_it) is) e refl h.sent h.brings
 
   link_kept : (r : OpenRead) (o : Option ReadLink) (result : Result Reply Refusal) (reads : Reads) → get s.reads read ≡ Some r → left_link r.reader.links link ≡ o → FetchesLink s.store s.reads read link at r o result reads → FetchKept (result, reads)
   link_kept r None result reads open_it e h = subst FetchKept h (gone_kept (λ l.
@@ -459,7 +435,7 @@ module _ (s : State) (at read : ℕ) (in_order : IsInOrder s) where
   AbandonKept o = Kept s at (Abandon read) o.0 o.1
 
   abandoned : (o : Option OpenRead) → get s.reads read ≡ o → AbandonKept (abandon_read s read o)
-  abandoned None e = refused_kept s at (Abandon read) InvalidArguments in_order (inr (inr (record { read = read; is = refl; gone = e }))) (λ n k a g. absurd cc)
+  abandoned None e = refused_kept s at (Abandon read) InvalidArguments in_order (inr (inr (inl (record { read = read; is = refl; gone = e })))) (λ n k a g. absurd cc)
   abandoned (Some r) e = record {
     links = λ version file range n of offset terms ls a f. absurd cc;
     refused = λ why f. absurd cc;
@@ -473,12 +449,17 @@ module _ (s : State) (at read : ℕ) (in_order : IsInOrder s) where
     gone = λ n k a g. absurd cc;
     in_order = record {
       numbered = λ n q f. by_gone (λ (o : Option OpenRead). o ≡ some_read q → n < s.next) s.reads read n (λ same g. absurd cc) (λ apart g. in_order.numbered n q g) f;
-      of_one = λ n q f. by_gone (λ (o : Option OpenRead). o ≡ some_read q → AllByRecursion HasOneRange q.reader.links) s.reads read n (λ same g. absurd cc) (λ apart g. in_order.of_one n q g) f;
+      orderly = λ n q f. by_gone (λ (o : Option OpenRead). o ≡ some_read q → AllByRecursion IsOrderly q.reader.links) s.reads read n (λ same g. absurd cc) (λ apart g. in_order.orderly n q g) f;
     };
   }
 
   pub abandon_kept : (result : Result Reply Refusal) (t : State) → abandon_step s read ≡ (result, t) → Kept s at (Abandon read) result t
   abandon_kept result t h = subst AbandonKept h (abandoned (get s.reads read) refl)
+
+-- a query is answered by a reply of its own
+dedup_plans : (o : Option (List ℕ)) → shard_reply o ≡ NoPlan → ⊥
+dedup_plans None e = absurd cc
+dedup_plans (Some bytes) e = absurd cc
 
 -- ---- all acts
 
@@ -498,6 +479,28 @@ act_kept facts s at (DeleteXorb xorb) result t h o =
     command_kept was_done s at (DeleteXorb xorb) result t o (λ x e. cc) (λ version file range e. cc) (λ read link e. cc) _ h (λ why d. never_refused s.store (delete_xorb s.store xorb).1 t.store why _ d)
 act_kept facts s at (SetExpiration millis) result t h o =
     command_kept was_done s at (SetExpiration millis) result t o (λ x e. cc) (λ version file range e. cc) (λ read link e. cc) _ h (λ why d. never_refused s.store (set_expiration s.store millis).1 t.store why _ d)
+act_kept facts s at (SetDedupExpiration millis) result t h o =
+    command_kept was_done s at (SetDedupExpiration millis) result t o (λ x e. cc) (λ version file range e. cc) (λ read link e. cc) _ h (λ why d. never_refused s.store (set_dedup_expiration s.store millis).1 t.store why _ d)
+act_kept facts s at (DedupQuery chunk) result t h o =
+    question_kept shard_reply s at (DedupQuery chunk) result t o dedup_plans (λ version file' range e. cc) (λ read link e. cc) (Ok (dedup_answer s.store chunk at)) h (λ why e. absurd cc)
+act_kept facts s at (SetMaxRanges max) result t h o =
+    command_kept was_done s at (SetMaxRanges max) result t o (λ x e. cc) (λ version file range e. cc) (λ read link e. cc) _ h (λ why d. max_kept s at max t.store why d)
+act_kept facts s at (RemoveDedup shard) result t h o =
+    command_kept was_done s at (RemoveDedup shard) result t o (λ x e. cc) (λ version file range e. cc) (λ read link e. cc) _ h (λ why d. never_refused s.store (drop_dedup s.store shard).1 t.store why _ d)
+act_kept facts s at ListXorbs result t h o =
+    question_kept Hashes s at ListXorbs result t o (λ x e. cc) (λ version file' range e. cc) (λ read link e. cc) (Ok (xorb_hashes s.store)) h (λ why e. absurd cc)
+act_kept facts s at ListShards result t h o =
+    question_kept Hashes s at ListShards result t o (λ x e. cc) (λ version file' range e. cc) (λ read link e. cc) (Ok (shard_hashes s.store)) h (λ why e. absurd cc)
+act_kept facts s at ListFiles result t h o =
+    question_kept Files s at ListFiles result t o (λ x e. cc) (λ version file' range e. cc) (λ read link e. cc) (Ok (file_entries s.store)) h (λ why e. absurd cc)
+act_kept facts s at CheckIntegrity result t h o =
+    question_kept was_done s at CheckIntegrity result t o (λ x e. cc) (λ version file' range e. cc) (λ read link e. cc) (checked (integrity s.store)) h (λ why e. check_refused (HasCause s at CheckIntegrity) (integrity s.store) why (λ fails. inr (inr fails)) e)
+act_kept facts s at CheckReachable result t h o =
+    question_kept was_done s at CheckReachable result t o (λ x e. cc) (λ version file' range e. cc) (λ read link e. cc) (checked (reachable s.store)) h (λ why e. check_refused (HasCause s at CheckReachable) (reachable s.store) why (λ fails. inr (inr fails)) e)
+act_kept facts s at CheckReadable result t h o =
+    question_kept was_done s at CheckReadable result t o (λ x e. cc) (λ version file' range e. cc) (λ read link e. cc) (checked (readable s.store)) h (λ why e. check_refused (HasCause s at CheckReadable) (readable s.store) why (λ fails. inr (inr fails)) e)
+act_kept facts s at (InsertRandomXorb seed count size) result t h o =
+    command_kept Random s at (InsertRandomXorb seed count size) result t o (λ x e. cc) (λ version file range e. cc) (λ read link e. cc) _ h (λ why d. generated_refused s at seed count size t.store why d)
 act_kept facts s at (FileSize file) result t h o =
     question_kept Size s at (FileSize file) result t o (λ x e. cc) (λ version file' range e. cc) (λ read link e. cc) (file_size s.store file) h (λ why e. size_refused s at file why e)
 act_kept facts s at (FileData file range) result t h o =

@@ -7,24 +7,23 @@ use Rattle.std.proofs.lemmas.Cmp.{nat_cmp_total}
 use Rattle.std.specs.FinMap.{get, insert, get-insert}
 use Rattle.std.proofs.lemmas.List.Sums.{sum_by-cons}
 use Rattle.xet_types.specs.declared.error.Refusal.{Refusal}
-use Rattle.xet_types.specs.declared.record.XorbRangeDescriptor.{XorbRangeDescriptor}
-use Rattle.xet_xorb.specs.XorbBytes.{xorb_text}
 use Rattle.xet_plan.specs.FileBytes.{Content}
 use Rattle.xet_store.specs.StoreModel.{Chunks, stored}
 use Rattle.xet_service.specs.declared.reply.PlannedLink.{PlannedLink}
 use Rattle.xet_service.specs.declared.reply.Reply.TheVariants.{Fetched, Finished}
 use Rattle.xet_service.specs.declared.read.OpenRead.{OpenRead}
 use Rattle.xet_service.specs.declared.reader.link.ReadLink.{ReadLink}
-use Rattle.xet_service.specs.Reading.{Reading, left_link, left_one, count_left, with_got, take_link, only_range, IsOne, BringsPlain, Brings, BringsTo, Accepts, bytes_read}
+use Rattle.xet_service.specs.Reading.{Reading, left_link, left_one, count_left, with_got, take_link, BringsTo, Accepts, bytes_read}
 use Rattle.xet_service.specs.World.{State, Reads}
-use Rattle.xet_service.specs.Steps.{ReadsOutcome, no_note, fetch_done, fetch_taken, with_reader, TakesBody, FetchesBody, FetchesRange, FetchesIf, FetchesLink, FetchesRead, Fetches, is_expired}
+use Rattle.xet_service.specs.Steps.{ReadsOutcome, no_note, fetch_done, fetch_taken, with_reader, asked_bytes, FetchesBody, FetchesSent, FetchesIf, FetchesLink, FetchesRead, Fetches}
+use Rattle.xet_store.specs.TermData.{is_expired}
+use Rattle.xet_service.specs.Bodies.{Body, type_text, SendsStored}
 use Rattle.xet_service.specs.Runs.{Event, outcome_of}
 use Rattle.xet_service.specs.Validity.{AgreesWith, IsFetched, Answered, count_true}
 use Rattle.xet_service.proofs.Keeping.{reply_is}
-use Rattle.xet_service.proofs.Goods.{GoodLink, IsGoodAt, GoodAt, Goods, cut_chunks}
+use Rattle.xet_service.proofs.Goods.{GoodLink, IsGoodAt, GoodAt, Goods}
 use Rattle.xet_service.proofs.Taken.{some_is, left_good}
-use Rattle.xet_service.proofs.Stepping.{no_parts}
-use Rattle.xet_service.proofs.Served.{is_there, never_refused}
+use Rattle.xet_service.proofs.Served.{never_past, never_refused}
 
 -- ---- which links are left
 
@@ -146,18 +145,17 @@ module _ (m : Content) (e : Event) (n stamp : ℕ) (links : List PlannedLink) (l
         });
       }
 
-  abbrev body : List ℕ
-  body = xorb_text (cut_chunks g.all g.range)
+  taken_goes : (body : Body) (answer : Result (Unit {0}) Refusal) (after : Reading) → SendsStored e.before.state.store at_link.link.hash (asked_bytes at_link.link.ranges) (Ok body) → Accepts r.reader link (type_text body.content_type) body.bytes answer after
+      → fetch_taken e.before.state.reads n link (length body.bytes) r answer after ≡ (outcome_of e.reply, e.after.state.reads) → FetchGoes e n stamp links left link
+  taken_goes body (Err why) after sent a h =
+      absurd (never_refused m e.before.state.store at_link.link g valid.chunks agree there body sent why (subst (λ (l : Option ReadLink). BringsTo l (type_text body.content_type) body.bytes (Err why)) at_link.left a.0))
+  taken_goes body (Ok u) after sent a h =
+      done_goes a.0 (length body.bytes) (count_left (take_link r.reader link a.0).links) refl
+      (subst (λ (x : Reading). fetch_done e.before.state.reads n link (length body.bytes) (with_reader r x) (count_left x.links) ≡ (outcome_of e.reply, e.after.state.reads)) a.1.1 h)
 
-  never : (why : Refusal) → Brings IsOne at_link.link [] body (Err why) → ⊥
-  never why (inl h) = no_parts h.0.0 h.0.1
-  never why (inr h) = never_refused m e.before.state.store at_link.link g valid.chunks agree there why (subst (λ (d : Option XorbRangeDescriptor). BringsPlain IsOne d at_link.link.held body (Err why)) (ap only_range g.only) h.1)
-
-  taken_goes : (answer : Result (Unit {0}) Refusal) (after : Reading) → Accepts r.reader link [] body answer after → fetch_taken e.before.state.reads n link (length body) r answer after ≡ (outcome_of e.reply, e.after.state.reads) → FetchGoes e n stamp links left link
-  taken_goes (Err why) after a h = absurd (never why (subst (λ (l : Option ReadLink). BringsTo IsOne l [] body (Err why)) at_link.left a.0))
-  taken_goes (Ok u) after a h =
-      done_goes a.0 (length body) (count_left (take_link r.reader link a.0).links) refl
-      (subst (λ (x : Reading). fetch_done e.before.state.reads n link (length body) (with_reader r x) (count_left x.links) ≡ (outcome_of e.reply, e.after.state.reads)) a.1.1 h)
+  sent_goes : (body : Result Body Refusal) → SendsStored e.before.state.store at_link.link.hash (asked_bytes at_link.link.ranges) body → FetchesBody e.before.state.reads n link r body (outcome_of e.reply) e.after.state.reads → FetchGoes e n stamp links left link
+  sent_goes (Err why) sent h = absurd (never_past m e.before.state.store at_link.link g valid.chunks agree there why sent)
+  sent_goes (Ok body) sent h = taken_goes body h.answer h.after sent h.accepts h.step
 
   -- a valid fetch of an open read succeeds
   pub fetch_goes : Fetches e.before.state n link e.step.at (outcome_of e.reply) e.after.state → FetchGoes e n stamp links left link
@@ -166,7 +164,5 @@ module _ (m : Content) (e : Event) (n stamp : ℕ) (links : List PlannedLink) (l
       let linked = subst (λ (q : Option OpenRead). FetchesRead s.store s.reads n link e.step.at q (outcome_of e.reply) e.after.state.reads) o.found h.reads in
       let aged = subst (λ (q : Option ReadLink). FetchesLink s.store s.reads n link e.step.at r q (outcome_of e.reply) e.after.state.reads) at_link.left linked in
       let fresh : is_expired e.step.at r.stamp s.store.expiration ≡ false = ap (λ (k : ℕ). is_expired e.step.at k s.store.expiration) o.stamped ∙ valid.fresh in
-      let ranged = subst (λ (b : Bool). FetchesIf s.store s.reads n link r at_link.link b (outcome_of e.reply) e.after.state.reads) fresh aged in
-      let bodied = subst (λ (d : Option XorbRangeDescriptor). FetchesRange s.store s.reads n link r at_link.link.hash d (outcome_of e.reply) e.after.state.reads) (ap only_range g.only) ranged in
-      let takes : TakesBody s.reads n link r body (outcome_of e.reply) e.after.state.reads = subst (λ (a : Result (List ℕ) Refusal). FetchesBody s.reads n link r a (outcome_of e.reply) e.after.state.reads) (is_there m s.store at_link.link g valid.chunks agree there) bodied in
-      taken_goes takes.answer takes.after takes.accepts takes.step
+      let sent : FetchesSent s.store s.reads n link r at_link.link (outcome_of e.reply) e.after.state.reads = subst (λ (b : Bool). FetchesIf s.store s.reads n link r at_link.link b (outcome_of e.reply) e.after.state.reads) fresh aged in
+      sent_goes sent.body sent.sent sent.brings

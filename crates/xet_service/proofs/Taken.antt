@@ -1,31 +1,33 @@
 -- What a fetch leaves of a good read, and what the fetch of its last link puts together.
-use Rattle.std.proofs.Common.{◌≡◌, ◌∙◌, ℕ, zero, suc, ◌+◌, ◌-◌, ◌^◌, ◌<◌, ◌≤◌, true, false, Bool, cond, List, [], ◌∷◌, map, drop, take, min, slice_range, Option, Some, None, Result, Ok, refl, sym, ap, subst, arith, inl, inr}
+use Rattle.std.proofs.Common.{◌≡◌, ◌∙◌, ℕ, zero, suc, ◌+◌, ◌-◌, ◌^◌, ◌<◌, ◌≤◌, true, false, Bool, cond, List, [], ◌∷◌, map, drop, take, min, slice_range, Option, Some, None, Result, Ok, Err, refl, sym, ap, subst, arith, inl, inr}
 use Rattle.std.specs.Prelude.{slice_get, is_none}
 use Rattle.std.specs.List.{AllByRecursion, flat_map, concat}
 use Rattle.std.proofs.lemmas.List.{drop-take, drop-drop, take-take}
 use Rattle.std.proofs.lemmas.List.Sums.{sum_by-cons}
 use Rattle.xet_types.specs.Ranges.{file_range_of, last_place}
 use Rattle.xet_types.specs.declared.error.Refusal.{Refusal}
+use Rattle.xet_types.specs.declared.error.Refusal.TheVariants.{InvalidRange, XORBNotFound}
 use Rattle.xet_types.specs.declared.range.Range.{Range}
 use Rattle.xet_types.specs.declared.range._F.{_F}
 use Rattle.xet_types.specs.declared.range._H.{_H}
 use Rattle.xet_types.specs.declared.record.XorbRangeDescriptor.{XorbRangeDescriptor}
 use Rattle.xet_xorb.specs.Lengths.{packed_before}
-use Rattle.xet_xorb.specs.ChunkLists.{lengths_of}
+use Rattle.xet_xorb.specs.ChunkLists.{lengths_of, IsWellFormed}
 use Rattle.xet_xorb.specs.XorbBytes.{xorb_text, AreWholeChunks}
-use Rattle.xet_xorb.proofs.WholeChunks.{AreWholeChunks-unique}
 use Rattle.xet_plan.specs.FileBytes.{Content, chunks_between, term_bytes}
 use Rattle.xet_store.specs.StoreModel.{StoreModel, Chunks, stored}
-use Rattle.xet_store.specs.Questions.{of_xorb}
 use Rattle.xet_store.specs.Plans.{cut_to}
 use Rattle.xet_service.specs.declared.reader.held.HeldTerm.{HeldTerm}
 use Rattle.xet_service.specs.declared.reader.link.ReadLink.{ReadLink}
-use Rattle.xet_service.specs.Bodies.{body_of, stored_body}
-use Rattle.xet_service.specs.Reading.{Reading, left_link, left_one, count_left, with_got, take_link, only_range, IsOne, BringsOne, got_of_range, got_of_link, got_for, cut_of_range, held_text, bytes_read}
+use Rattle.xet_service.specs.Bodies.{Body, type_text, lies_in, all_lie_in, bytes_at, piece_of, IsBodyOf, SendsOf, SendsStored}
+use Rattle.xet_service.specs.Reading.{Reading, left_link, left_one, count_left, with_got, take_link, nth_chunks, AreAllWhole, Spells, got_of_range, got_of_link, got_for, cut_of_range, held_text, bytes_read}
+use Rattle.xet_service.specs.Steps.{asked_bytes}
 use Rattle.xet_service.specs.Validity.{AgreesWith}
+use Rattle.xet_service.proofs.Parted.{parts_once, written_parts}
+use Rattle.xet_service.proofs.ReaderAnswers.{all_whole_once}
 use Rattle.xet_service.proofs.Opening.{packed_short}
 use Rattle.xet_service.proofs.RunBodies.{run_bytes, rises, run_body, run_whole}
-use Rattle.xet_service.proofs.Goods.{cut_chunks, GoodLink, IsHeldIn, GoodRead, term_of}
+use Rattle.xet_service.proofs.Goods.{cut_chunks, all_chunks, GoodRange, GoodLink, IsHeldIn, GoodRead, term_of}
 
 pub some_is : {X : Type 0} (x y : X) → ◌≡◌ {A = Option X} (Some x) (Some y) → x ≡ y
 some_is x y e = cc
@@ -33,40 +35,79 @@ some_is x y e = cc
 pub ok_is : {X : Type 0} (x y : X) → ◌≡◌ {A = Result X Refusal} (Ok x) (Ok y) → x ≡ y
 ok_is x y e = cc
 
--- ---- what a body of the store spells
-
--- a stored xorb and its body
-pub record IsStoredBody (store : StoreModel) (hash : List ℕ) (r : Range ℕ _F) (body : List ℕ) : Type 0 where
-  pub chunks : Chunks
-  pub there : stored store hash ≡ Some chunks
-  pub is : body_of r chunks ≡ Ok body
-
-pub stored_by : (store : StoreModel) (hash : List ℕ) (r : Range ℕ _F) (body : List ℕ) → stored_body store hash r ≡ Ok body → IsStoredBody store hash r body
-stored_by store hash r body e = of (stored store hash) refl e
-  where
-    of : (o : Option Chunks) → stored store hash ≡ o → of_xorb hash (body_of r) o ≡ Ok body → IsStoredBody store hash r body
-    of None there g = absurd cc
-    of (Some chunks) there g = record { chunks = chunks; there = there; is = g }
-
 pub range_is : (r : Range ℕ _H) (s e : ℕ) → r.start ≡ s → r.end ≡ e - 1 → 0 < e → e < 2 ^ 32 → file_range_of r ≡ record { start = s; end = e; _marker = record {} }
 range_is r s e start end some short =
     let same : min (r.end + 1) last_place ≡ e = omega (arith, end, some, short) in
     rw (start, same) refl
 
-pub got_is : (m : Content) (store : StoreModel) (l : ReadLink) (g : GoodLink m l) (range : XorbRangeDescriptor) (body : List ℕ) (got : List Chunks) → AgreesWith m store → only_range l.ranges ≡ Some range
-    → stored_body store l.hash (file_range_of range.bytes) ≡ Ok body → BringsOne IsOne range l.held body (Ok got) → got ≡ cut_chunks g.all g.range ∷ []
-got_is m store l g range body got agree only brought h =
-    let a : ℕ = g.range.chunks.start in
-    let b : ℕ = g.range.chunks.end in
-    let same : range ≡ g.range = some_is range g.range (sym only ∙ ap only_range g.only) in
-    let s : IsStoredBody store l.hash (file_range_of g.range.bytes) body = stored_by store l.hash (file_range_of g.range.bytes) body (subst (λ (r : XorbRangeDescriptor). stored_body store l.hash (file_range_of r.bytes) ≡ Ok body) same brought) in
+-- ---- the bytes of good ranges
+
+-- they lie in the list's text, and are its chunks
+pub record IsGoodPiece (all : Chunks) (r : XorbRangeDescriptor) : Type 0 where
+  pub inside : lies_in all (file_range_of r.bytes) ≡ true
+  pub whole : AreWholeChunks (bytes_at all (file_range_of r.bytes)) (cut_chunks all r)
+  pub below : r.bytes.end < last_place
+
+lies_by : (r : Range ℕ _F) (all : Chunks) (body : List ℕ) → piece_of r all ≡ Ok body → (lies_in all r ≡ true) × (bytes_at all r ≡ body)
+lies_by r all body e = of (lies_in all r) refl e
+  where
+    of : (b : Bool) → lies_in all r ≡ b → cond b (Ok (bytes_at all r)) (Err InvalidRange) ≡ Ok body → (lies_in all r ≡ true) × (bytes_at all r ≡ body)
+    of true t h = (t, ok_is (bytes_at all r) body h)
+    of false t h = absurd cc
+
+pub good_piece : (all : Chunks) (r : XorbRangeDescriptor) → IsWellFormed all → GoodRange all r → IsGoodPiece all r
+good_piece all r formed g =
+    let a : ℕ = r.chunks.start in
+    let b : ℕ = r.chunks.end in
+    let up : packed_before (lengths_of all) a < packed_before (lengths_of all) b = rises all a b g.some g.inside in
+    let short = packed_short all b formed g.inside in
+    let bytes : file_range_of r.bytes ≡ run_bytes all a b = range_is r.bytes (packed_before (lengths_of all) a) (packed_before (lengths_of all) b) g.first g.last (omega (arith, up)) short in
+    let there = lies_by (file_range_of r.bytes) all (xorb_text (cut_chunks all r)) (ap (λ (q : Range ℕ _F). piece_of q all) bytes ∙ run_body all a b g.some g.inside) in
+    record {
+      inside = there.0;
+      whole = subst (λ (t : List ℕ). AreWholeChunks t (cut_chunks all r)) (sym there.1) (run_whole all a b formed g.some g.inside);
+      below = let last = g.last in omega (arith, last, short);
+    }
+
+-- the same of several ranges
+pub record AreGoodPieces (all : Chunks) (rs : List XorbRangeDescriptor) : Type 0 where
+  pub inside : all_lie_in all (asked_bytes rs) ≡ true
+  pub whole : AreAllWhole (map (bytes_at all) (asked_bytes rs)) (all_chunks all rs)
+  pub below : AllByRecursion (λ (r : XorbRangeDescriptor). r.bytes.end < last_place) rs
+
+pub good_pieces : (all : Chunks) (rs : List XorbRangeDescriptor) → IsWellFormed all → AllByRecursion (GoodRange all) rs → AreGoodPieces all rs
+good_pieces all [] formed g = record { inside = refl; whole = tt; below = tt }
+good_pieces all (r ∷ rs) formed g =
+    let one = good_piece all r formed g.0 in
+    let more = good_pieces all rs formed g.1 in
+    record { inside = rw (one.inside, more.inside) refl; whole = (one.whole, more.whole); below = (one.below, more.below) }
+
+-- ---- what a body of the store spells
+
+-- the body of a stored xorb
+pub record IsStoredBody (store : StoreModel) (hash : List ℕ) (rs : List (Range ℕ _F)) (body : Body) : Type 0 where
+  pub chunks : Chunks
+  pub there : stored store hash ≡ Some chunks
+  pub inside : all_lie_in chunks rs ≡ true
+  pub is : IsBodyOf chunks rs body
+
+pub stored_by : (store : StoreModel) (hash : List ℕ) (rs : List (Range ℕ _F)) (body : Body) → SendsStored store hash rs (Ok body) → IsStoredBody store hash rs body
+stored_by store hash rs body e = of (stored store hash) refl e
+  where
+    of : (o : Option Chunks) → stored store hash ≡ o → SendsOf hash rs o (Ok body) → IsStoredBody store hash rs body
+    of None there g = absurd (let f : ◌≡◌ {A = Result Body Refusal} (Ok body) (Err (XORBNotFound hash)) = g in cc)
+    of (Some chunks) there g = record { chunks = chunks; there = there; inside = g.0; is = g.1 }
+
+pub got_is : (m : Content) (store : StoreModel) (l : ReadLink) (g : GoodLink m l) (body : Body) (got : List Chunks) → AgreesWith m store → SendsStored store l.hash (asked_bytes l.ranges) (Ok body)
+    → Spells l (type_text body.content_type) body.bytes got → got ≡ all_chunks g.all l.ranges
+got_is m store l g body got agree sent h =
+    let s = stored_by store l.hash (asked_bytes l.ranges) body sent in
     let list : s.chunks ≡ g.all = some_is s.chunks g.all (sym (agree l.hash s.chunks s.there) ∙ g.is) in
-    let up : packed_before (lengths_of g.all) a < packed_before (lengths_of g.all) b = rises g.all a b g.some g.inside in
-    let bytes : file_range_of g.range.bytes ≡ run_bytes g.all a b = range_is g.range.bytes (packed_before (lengths_of g.all) a) (packed_before (lengths_of g.all) b) g.first g.last (omega (arith, up)) (packed_short g.all b g.formed g.inside) in
-    let there : body_of (run_bytes g.all a b) g.all ≡ Ok body = subst (λ (r : Range ℕ _F). body_of r g.all ≡ Ok body) bytes (subst (λ (cs : Chunks). body_of (file_range_of g.range.bytes) cs ≡ Ok body) list s.is) in
-    let text : xorb_text (cut_chunks g.all g.range) ≡ body = ok_is (xorb_text (cut_chunks g.all g.range)) body (sym (run_body g.all a b g.some g.inside) ∙ there) in
-    let whole : AreWholeChunks body (cut_chunks g.all g.range) = subst (λ (t : List ℕ). AreWholeChunks t (cut_chunks g.all g.range)) text (run_whole g.all a b g.formed g.some g.inside) in
-    h.1.1 ∙ ap (λ (cs : Chunks). cs ∷ []) (AreWholeChunks-unique body h.0 (cut_chunks g.all g.range) h.1.0.whole whole)
+    let is : IsBodyOf g.all (asked_bytes l.ranges) body = subst (λ (cs : Chunks). IsBodyOf cs (asked_bytes l.ranges) body) list s.is in
+    let pieces = good_pieces g.all l.ranges g.formed g.each in
+    let has = written_parts g.all l.ranges g.rises pieces.below pieces.inside body is in
+    let parts : h.parts ≡ map (bytes_at g.all) (asked_bytes l.ranges) = parts_once l.ranges (type_text body.content_type) body.bytes h.parts (map (bytes_at g.all) (asked_bytes l.ranges)) h.has has in
+    all_whole_once (map (bytes_at g.all) (asked_bytes l.ranges)) got (all_chunks g.all l.ranges) (subst (λ (p : List (List ℕ)). AreAllWhole p got) parts h.whole) pieces.whole
 
 -- ---- a link that is left
 
@@ -79,15 +120,15 @@ left_good m (x ∷ ls) zero l g e = of (is_none x.got) e
     of false h = absurd cc
 left_good m (x ∷ ls) (suc n) l g e = left_good m ls n l g.1 e
 
-link_taken : (m : Content) (x : ReadLink) (got : List Chunks) (g : GoodLink m x) → got ≡ cut_chunks g.all g.range ∷ [] → GoodLink m (record x { got = Some got })
-link_taken m x got g is = record { all = g.all; is = g.is; formed = g.formed; range = g.range; only = g.only; some = g.some; inside = g.inside; first = g.first; last = g.last; fit = g.fit; brought = inr (ap (λ (cs : List Chunks). Some cs) is) }
+link_taken : (m : Content) (x : ReadLink) (got : List Chunks) (g : GoodLink m x) → got ≡ all_chunks g.all x.ranges → GoodLink m (record x { got = Some got })
+link_taken m x got g is = record { all = g.all; is = g.is; formed = g.formed; each = g.each; rises = g.rises; fit = g.fit; brought = inr (ap (λ (cs : List Chunks). Some cs) is) }
 
-pub taken_good : (m : Content) (ls : List ReadLink) (n : ℕ) (l : ReadLink) (got : List Chunks) → AllByRecursion (GoodLink m) ls → left_link ls n ≡ Some l → ((g : GoodLink m l) → got ≡ cut_chunks g.all g.range ∷ []) → AllByRecursion (GoodLink m) (with_got ls n (slice_get ls n) got)
+pub taken_good : (m : Content) (ls : List ReadLink) (n : ℕ) (l : ReadLink) (got : List Chunks) → AllByRecursion (GoodLink m) ls → left_link ls n ≡ Some l → ((g : GoodLink m l) → got ≡ all_chunks g.all l.ranges) → AllByRecursion (GoodLink m) (with_got ls n (slice_get ls n) got)
 taken_good m [] n l got g e is = tt
 taken_good m (x ∷ ls) zero l got g e is = (of (is_none x.got) e, g.1)
   where
     of : (b : Bool) → cond b (Some x) None ≡ Some l → GoodLink m (record x { got = Some got })
-    of true h = link_taken m x got g.0 (subst (λ (y : ReadLink). (k : GoodLink m y) → got ≡ cut_chunks k.all k.range ∷ []) (sym (some_is x l h)) is g.0)
+    of true h = link_taken m x got g.0 (subst (λ (y : ReadLink). (k : GoodLink m y) → got ≡ all_chunks k.all y.ranges) (sym (some_is x l h)) is g.0)
     of false h = absurd cc
 taken_good m (x ∷ ls) (suc n) l got g e is = of (slice_get ls n) (taken_good m ls n l got g.1 e is)
   where
@@ -117,7 +158,7 @@ still_there (x ∷ ls) (suc n) k got l e = of (slice_get ls n) k e (λ j f. stil
 held_taken : (ls : List ReadLink) (n : ℕ) (got : List Chunks) (h : HeldTerm) → IsHeldIn ls h → IsHeldIn (with_got ls n (slice_get ls n) got) h
 held_taken ls n got h i =
     let t = still_there ls n h.range.link got i.link i.there in
-    record { link = t.link; there = t.there; hash = t.hash ∙ i.hash; number = i.number; range = i.range; only = t.ranges ∙ i.only; from = i.from; low = i.low; rises = i.rises; high = i.high }
+    record { link = t.link; there = t.there; hash = t.hash ∙ i.hash; range = i.range; at = ap (λ (rs : List XorbRangeDescriptor). slice_get rs h.range.number) t.ranges ∙ i.at; from = i.from; low = i.low; rises = i.rises; high = i.high }
 
 pub all_held_taken : (ls : List ReadLink) (n : ℕ) (got : List Chunks) (hs : List HeldTerm) → AllByRecursion (IsHeldIn ls) hs → AllByRecursion (IsHeldIn (with_got ls n (slice_get ls n) got)) hs
 all_held_taken ls n got [] i = tt
@@ -142,12 +183,18 @@ full_at m [] k l g none e = absurd cc
 full_at m (x ∷ ls) zero l g none e = let same : x ≡ l = some_is x l e in subst (IsFull m) same (record { good = g.0; full = (none_head x ls none).0 })
 full_at m (x ∷ ls) (suc k) l g none e = full_at m ls k l g.1 (none_head x ls none).1 e
 
-brought_is : (m : Content) (l : ReadLink) (f : IsFull m l) → l.got ≡ Some (cut_chunks f.good.all f.good.range ∷ [])
+brought_is : (m : Content) (l : ReadLink) (f : IsFull m l) → l.got ≡ Some (all_chunks f.good.all l.ranges)
 brought_is m l f =
-    elim f.good.brought as (λ _. l.got ≡ Some (cut_chunks f.good.all f.good.range ∷ [])) [
+    elim f.good.brought as (λ _. l.got ≡ Some (all_chunks f.good.all l.ranges)) [
       | inl none ↦ (let no_way : true ≡ false = sym (ap (λ (o : Option (List Chunks)). is_none o) none) ∙ f.full in absurd cc)
       | inr some ↦ some
     ]
+
+-- the chunks of the range of a number
+pub nth_is : (all : Chunks) (rs : List XorbRangeDescriptor) (k : ℕ) (r : XorbRangeDescriptor) → slice_get rs k ≡ Some r → nth_chunks (all_chunks all rs) k ≡ cut_chunks all r
+nth_is all [] k r e = absurd cc
+nth_is all (x ∷ rs) zero r e = ap (cut_chunks all) (some_is x r e)
+nth_is all (x ∷ rs) (suc k) r e = nth_is all rs k r e
 
 -- a part of a part is a part of the list
 pub part_of_part : (xs : Chunks) (s e a b : ℕ) → s ≤ a → a ≤ b → b ≤ e → slice_range (slice_range xs s e) (a - s) (b - s) ≡ slice_range xs a b
@@ -167,15 +214,12 @@ term_is m ls h g none i =
     let f : IsFull m i.link = full_at m ls h.range.link i.link g none i.there in
     let all = f.good.all in
     let t = h.term in
-    let range : i.range ≡ f.good.range = some_is i.range f.good.range (sym (ap only_range i.only) ∙ ap only_range f.good.only) in
-    let s : ℕ = f.good.range.chunks.start in
-    let e : ℕ = f.good.range.chunks.end in
-    let start : i.range.chunks.start ≡ s = ap (λ (r : XorbRangeDescriptor). r.chunks.start) range in
-    let end : i.range.chunks.end ≡ e = ap (λ (r : XorbRangeDescriptor). r.chunks.end) range in
-    let from : h.range.chunks.start ≡ s = i.from ∙ start in
-    let got : got_for ls h ≡ cut_chunks all f.good.range = ap (λ (o : Option ReadLink). got_of_link o h.range.number) i.there ∙ ap (got_of_range i.link.got) i.number ∙ ap (λ (o : Option (List Chunks)). got_of_range o 0) (brought_is m i.link f) in
+    let s : ℕ = i.range.chunks.start in
+    let e : ℕ = i.range.chunks.end in
+    let got : got_for ls h ≡ cut_chunks all i.range
+    = ap (λ (o : Option ReadLink). got_of_link o h.range.number) i.there ∙ ap (λ (o : Option (List Chunks)). got_of_range o h.range.number) (brought_is m i.link f) ∙ nth_is all i.link.ranges h.range.number i.range i.at in
     let cut : cut_of_range h (got_for ls h) ≡ slice_range all t.range.start t.range.end
-    = ap (cut_of_range h) got ∙ ap (λ (n : ℕ). slice_range (cut_chunks all f.good.range) (t.range.start - n) (t.range.end - n)) from ∙ part_of_part all s e t.range.start t.range.end (omega (arith, i.low, start)) i.rises (omega (arith, i.high, end)) in
+    = ap (cut_of_range h) got ∙ ap (λ (n : ℕ). slice_range (cut_chunks all i.range) (t.range.start - n) (t.range.end - n)) i.from ∙ part_of_part all s e t.range.start t.range.end i.low i.rises i.high in
     let list : m t.hash ≡ Some all = ap m (sym i.hash) ∙ f.good.is in
     ap (λ (cs : Chunks). concat cs) (cut ∙ ap (λ (o : Option Chunks). chunks_between o t.range.start t.range.end) (sym list))
 
@@ -185,7 +229,7 @@ terms_are m ls (h ∷ hs) g none i = rw (term_is m ls h g none i.0, terms_are m 
 
 -- ---- a fetch
 
-module _ (m : Content) (fixed : List ℕ) (r : Reading) (n : ℕ) (l : ReadLink) (got : List Chunks) (good : GoodRead m fixed r) (left : left_link r.links n ≡ Some l) (is : (g : GoodLink m l) → got ≡ cut_chunks g.all g.range ∷ []) where
+module _ (m : Content) (fixed : List ℕ) (r : Reading) (n : ℕ) (l : ReadLink) (got : List Chunks) (good : GoodRead m fixed r) (left : left_link r.links n ≡ Some l) (is : (g : GoodLink m l) → got ≡ all_chunks g.all l.ranges) where
   -- the read stays good while links are left
   pub fetched_good : 0 < count_left (take_link r n got).links → GoodRead m fixed (take_link r n got)
   fetched_good some = record {

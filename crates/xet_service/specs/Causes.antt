@@ -1,5 +1,5 @@
 -- Why a step is answered as it is.
-use Rattle.std.specs.Prelude.{◌≡◌, ℕ, true, false, List, ◌⊎◌, Option, Some, None, Ok, Err}
+use Rattle.std.specs.Prelude.{◌≡◌, ℕ, true, false, List, map, ◌⊎◌, Option, Some, None}
 use Rattle.std.specs.FinMap.{get}
 use Rattle.xet_types.specs.declared.error.Refusal.{Refusal}
 use Rattle.xet_types.specs.declared.error.Refusal.TheVariants.{FormatError, InvalidRange, InvalidArguments, FileNotFound, XORBNotFound, PresignedUrlExpirationError, IOError, Other, InvalidKey, CacheError, HttpStatus}
@@ -10,24 +10,26 @@ use Rattle.xet_shard.specs.declared.listing.Segment.{Segment}
 use Rattle.xet_shard.specs.Listings.{ShardModel}
 use Rattle.xet_shard.specs.ShardBytes.{IsReadAs}
 use Rattle.xet_shard.specs.Values.{size_of}
+use Rattle.xet_xorb.specs.ChunkLists.{IsWellFormed}
 use Rattle.xet_xorb.specs.XorbBytes.{IsXorbText}
+use Rattle.xet_xorb.specs.Generated.{seeded_chunks}
 use Rattle.xet_plan.specs.Places.{Interval, reach, first_fault}
 use Rattle.xet_plan.specs.declared.place.Reach.TheVariants.{Past, Reversed, Within}
 use Rattle.xet_store.specs.StoreModel.{Chunks, stored, listing, known_of}
 use Rattle.xet_store.specs.StoreModel.{shard_named}
 use Rattle.xet_store.specs.Commands.{IsMisnamed}
+use Rattle.xet_store.specs.Checks.{integrity, reachable, readable}
 use Rattle.xet_store.specs.Questions.{asked}
-use Rattle.xet_types.specs.Ranges.{file_range_of}
-use Rattle.xet_types.specs.declared.record.XorbRangeDescriptor.{XorbRangeDescriptor}
+use Rattle.xet_store.specs.TermData.{is_expired}
 use Rattle.xet_service.specs.declared.step.Act.{Act}
-use Rattle.xet_service.specs.declared.step.Act.TheVariants.{UploadXorb, UploadShard, Plan, Fetch, Abandon, DeleteShard, FileSize, FileData}
+use Rattle.xet_service.specs.declared.step.Act.TheVariants.{UploadXorb, UploadShard, Plan, Fetch, Abandon, DeleteShard, SetMaxRanges, FileSize, FileData, CheckIntegrity, CheckReachable, CheckReadable, InsertRandomXorb}
 use Rattle.xet_service.specs.declared.step.PlanVersion.{PlanVersion}
 use Rattle.xet_service.specs.declared.read.OpenRead.{OpenRead}
 use Rattle.xet_service.specs.declared.reader.link.ReadLink.{ReadLink}
-use Rattle.xet_service.specs.Bodies.{body_of}
-use Rattle.xet_service.specs.Reading.{left_link, only_range, IsBroken, IsMisfit}
+use Rattle.xet_service.specs.Bodies.{all_lie_in, bytes_at}
+use Rattle.xet_service.specs.Reading.{left_link, fits, AreAllWhole}
 use Rattle.xet_service.specs.World.{State}
-use Rattle.xet_service.specs.Steps.{used_up, is_expired}
+use Rattle.xet_service.specs.Steps.{used_up, asked_bytes}
 
 -- ---- uploads
 
@@ -53,6 +55,14 @@ pub record NoShard (act : Act) : Type 0 where
   pub is : act ≡ UploadShard content
   pub unspelled : (shard : ShardModel) → IsReadAs content shard → ⊥
 
+-- a generated xorb of chunks that aren't those of a xorb
+pub record GeneratesNothing (act : Act) : Type 0 where
+  pub seed : ℕ
+  pub count : ℕ
+  pub size : ℕ
+  pub is : act ≡ InsertRandomXorb seed count size
+  pub misshapen : IsWellFormed (seeded_chunks seed count size) → ⊥
+
 -- ---- deletions
 
 -- of a shard that isn't stored
@@ -60,6 +70,15 @@ pub record DeletesNothing (s : State) (act : Act) : Type 0 where
   pub name : List ℕ
   pub is : act ≡ DeleteShard name
   pub unstored : shard_named s.store.shards name ≡ None
+
+-- ---- checks
+
+-- a check whose condition the store doesn't meet
+abbrev pub FailsCheck : State → Act → Type 0
+FailsCheck s CheckIntegrity = integrity s.store ≡ false
+FailsCheck s CheckReachable = reachable s.store ≡ false
+FailsCheck s CheckReadable = readable s.store ≡ false
+FailsCheck s act = ⊥
 
 -- ---- files
 
@@ -180,29 +199,38 @@ pub record FetchesStored (s : State) (at : ℕ) (act : Act) : Type 0 where
   pub fresh : is_expired at fetch.left.held.stamp s.store.expiration ≡ false
   pub chunks : Chunks
   pub there : stored s.store fetch.left.it.hash ≡ Some chunks
-  pub range : XorbRangeDescriptor
-  pub only : only_range fetch.left.it.ranges ≡ Some range
 
--- as it is stored now it hasn't the bytes
+-- the bytes of the link's ranges in it as it is stored now
+abbrev pub link_bytes : ReadLink → Chunks → List (List ℕ)
+link_bytes l chunks = map (bytes_at chunks) (asked_bytes l.ranges)
+
+-- it hasn't these bytes
 pub record FetchesPast (s : State) (at : ℕ) (act : Act) : Type 0 where
   pub of : FetchesStored s at act
-  pub past : body_of (file_range_of of.range.bytes) of.chunks ≡ Err InvalidRange
+  pub past : all_lie_in of.chunks (asked_bytes of.fetch.left.it.ranges) ≡ false
 
--- it has these
+-- it has them
 pub record FetchesBytes (s : State) (at : ℕ) (act : Act) : Type 0 where
   pub of : FetchesStored s at act
-  pub bytes : List ℕ
-  pub there : body_of (file_range_of of.range.bytes) of.chunks ≡ Ok bytes
+  pub inside : all_lie_in of.chunks (asked_bytes of.fetch.left.it.ranges) ≡ true
 
--- which aren't whole chunks
+-- and those of some range aren't whole chunks
 pub record FetchesBroken (s : State) (at : ℕ) (act : Act) : Type 0 where
   pub brings : FetchesBytes s at act
-  pub broken : IsBroken brings.of.range brings.bytes
+  pub broken : (got : List Chunks) → AreAllWhole (link_bytes brings.of.fetch.left.it brings.of.chunks) got → ⊥
 
--- which are, and don't fit
+-- and they are whole chunks, which don't fit: a range hasn't its number of chunks, or a term's chunks don't have its length
 pub record FetchesMisfit (s : State) (at : ℕ) (act : Act) : Type 0 where
   pub brings : FetchesBytes s at act
-  pub misfit : IsMisfit brings.of.range brings.of.fetch.left.it.held brings.bytes
+  pub got : List Chunks
+  pub whole : AreAllWhole (link_bytes brings.of.fetch.left.it brings.of.chunks) got
+  pub misfit : fits brings.of.fetch.left.it.ranges brings.of.fetch.left.it.held got ≡ false
+
+-- ---- settings
+
+-- a link is to bring no runs
+pub record SetsNone (act : Act) : Type 0 where
+  pub is : act ≡ SetMaxRanges 0
 
 -- The act asks the store: a fetch does so only for a link that is left and not expired.
 abbrev pub IsAsked : State → ℕ → Act → Type 0
@@ -220,12 +248,12 @@ HasCause s at act (FormatError faults.Segment) = PlansFaulty s act (FormatError 
 HasCause s at act (FormatError faults.Table) = ⊥
 HasCause s at act (FormatError faults.Body) = FetchesMisfit s at act
 HasCause s at act InvalidRange = PlansReversed s act ⊎ (FetchesPast s at act ⊎ AsksPast s act)
-HasCause s at act InvalidArguments = PlansUsedUp s act ⊎ (FetchesNothing s act ⊎ AbandonsNothing s act)
+HasCause s at act InvalidArguments = PlansUsedUp s act ⊎ (FetchesNothing s act ⊎ (AbandonsNothing s act ⊎ (SetsNone act ⊎ GeneratesNothing act)))
 HasCause s at act (FileNotFound hash) = AsksNothing s act hash
 HasCause s at act (XORBNotFound hash) = PlansFaulty s act (XORBNotFound hash) ⊎ (AsksFaulty s act (XORBNotFound hash) ⊎ FetchesUnstored s at act hash)
 HasCause s at act PresignedUrlExpirationError = FetchesLate s at act
 HasCause s at act IOError = ⊥
-HasCause s at act Other = FalseName s act ⊎ DeletesNothing s act
+HasCause s at act Other = FalseName s act ⊎ (DeletesNothing s act ⊎ FailsCheck s act)
 HasCause s at act InvalidKey = ⊥
 HasCause s at act CacheError = ⊥
 HasCause s at act (HttpStatus status) = ⊥

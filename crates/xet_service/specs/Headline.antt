@@ -23,12 +23,10 @@ use Rattle.xet_service.specs.declared.reply.PlannedLink.{PlannedLink}
 use Rattle.xet_service.specs.declared.reply.CacheNote.{CacheNote}
 use Rattle.xet_service.specs.declared.reply.Reply.{Reply}
 use Rattle.xet_service.specs.declared.reply.Reply.TheVariants.{NoPlan, Done, Planned, Fetched, Finished, Refused}
-use Rattle.xet_types.specs.Records.{second_of}
 use Rattle.xet_types.specs.Faults.{Rose}
 use Rattle.xet_types.specs.declared.error.Refusal.TheVariants.{IOError}
-use Rattle.xet_store.specs.Responses.{first_of}
 use Rattle.xet_service.specs.declared.step.Act.TheVariants.{Abandon}
-use Rattle.xet_service.specs.Links.{planned_links}
+use Rattle.xet_service.specs.Links.{planned_links, answer_of}
 use Rattle.xet_service.specs.World.{State, IsInOrder}
 use Rattle.xet_service.specs.Runs.{World, world, Event, IsRun}
 use Rattle.xet_service.specs.Causes.{HasCause, PlansNothing, IsLeft}
@@ -54,9 +52,9 @@ abbrev pub EachOnce : List PlannedLink → Type 0
 EachOnce [] = Unit {0}
 EachOnce (l ∷ ls) = ((hash : List ℕ) (k : ℕ) → LinkHas l hash k → LinksHave ls hash k → ⊥) × EachOnce ls
 
--- The file is live, the range begins inside, and the met segments agree. The reply has the terms, the offset and the links
--- of the file's plan; the links hold exactly the met chunks, each once.
-pub record HoldsMet (store : StoreModel) (file : List ℕ) (range : Option (Range ℕ _F)) (at offset : ℕ) (terms : List XorbReconstructionTerm) (links : List PlannedLink) : Type 0 where
+-- The file is live, the range begins inside, and the met segments agree. The reply has the version, the terms and the offset of the
+-- file's plan, and its links in this version; the links hold exactly the met chunks, each once.
+pub record HoldsMet (store : StoreModel) (version : PlanVersion) (file : List ℕ) (range : Option (Range ℕ _F)) (at : ℕ) (of : PlanVersion) (offset : ℕ) (terms : List XorbReconstructionTerm) (links : List PlannedLink) : Type 0 where
   pub segments : List Segment
   pub clip : Interval
   pub plan : PlanModel
@@ -64,9 +62,10 @@ pub record HoldsMet (store : StoreModel) (file : List ℕ) (range : Option (Rang
   pub reached : reach (size_of segments) range ≡ Within clip.start clip.end
   pub agree : first_fault (known_of store) clip segments ≡ None
   pub is_plan : IsPlan (known_of store) segments clip plan
+  pub of_version : of ≡ version
   pub of_terms : terms ≡ plan.terms
   pub of_offset : offset ≡ plan.offset_into_first_range
-  pub of_links : links ≡ planned_links (second_of (first_of at plan))
+  pub of_links : links ≡ planned_links (answer_of version store.max_ranges at plan)
   pub covers : (hash : List ℕ) (k : ℕ) → LinksHave links hash k ↔ Has (met_chunks (known_of store) clip segments) hash k
   pub once : EachOnce links
 
@@ -79,7 +78,7 @@ Finishes e = (read : ℕ) (bytes : List ℕ) (wire : ℕ) (note : CacheNote) →
 -- A plan's links hold exactly the chunks that meet its range, each once.
 abbrev pub LinksExactly : Event → Type 0
 LinksExactly e = (version : PlanVersion) (file : List ℕ) (range : Option (Range ℕ _F)) (read : ℕ) (of : PlanVersion) (offset : ℕ) (terms : List XorbReconstructionTerm) (ls : List PlannedLink)
-    → e.step.act ≡ Plan version file range → e.reply ≡ Planned read of offset terms ls → HoldsMet e.before.state.store file range e.step.at offset terms ls
+    → e.step.act ≡ Plan version file range → e.reply ≡ Planned read of offset terms ls → HoldsMet e.before.state.store version file range e.step.at of offset terms ls
 
 -- A refused step changes neither store nor open reads.
 abbrev pub RefusedChangesNothing : Event → Type 0

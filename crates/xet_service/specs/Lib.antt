@@ -14,3 +14,4 @@ pub mod ReadingPlans
 pub mod ReadingOrder
 pub mod ReadingSteps
 pub mod Gathering
+pub mod ReadingParts

@@ -1,7 +1,11 @@
 -- The links of a plan.
 use Rattle.std.specs.Prelude.{ℕ, List, map}
 use Rattle.std.specs.List.{flat_map}
-use Rattle.xet_types.specs.Records.{RangesFetch, SecondPlan}
+use Rattle.xet_types.specs.Records.{RangesFetch, SecondPlan, second_of}
+use Rattle.xet_plan.specs.Plans.{PlanModel}
+use Rattle.xet_store.specs.Responses.{first_of, second_at}
+use Rattle.xet_service.specs.declared.step.PlanVersion.{PlanVersion}
+use Rattle.xet_service.specs.declared.step.PlanVersion.TheVariants.{V1, V2}
 use Rattle.xet_service.specs.declared.reply.PlannedLink.{PlannedLink}
 
 abbrev pub planned_link : List ℕ → RangesFetch → PlannedLink
@@ -13,3 +17,8 @@ xorb_links e = map (planned_link e.0) e.1
 -- the links in the plan's order
 abbrev pub planned_links : SecondPlan → List PlannedLink
 planned_links plan = flat_map xorb_links plan.xorbs
+
+-- The plan in a version, at a moment: with a link for each run, or for each group of at most so many runs of a xorb.
+abbrev pub answer_of : PlanVersion → ℕ → ℕ → PlanModel → SecondPlan
+answer_of V1 max at plan = second_of (first_of at plan)
+answer_of V2 max at plan = second_at max at plan

@@ -11,6 +11,7 @@ use Rattle.xet_types.specs.declared.error.Refusal.{Refusal}
 use Rattle.xet_types.specs.declared.error.Refusal.TheVariants.{FormatError, InvalidArguments, Other}
 use Rattle.xet_types.specs.declared.error.FormatFault.TheVariants as faults
 use Rattle.xet_xorb.specs.XorbBytes.{AreWholeChunks}
+use Rattle.xet_wire.specs.Multipart.{Part, content_of, IsReadAs}
 use Rattle.xet_store.specs.StoreModel.{Chunks}
 use Rattle.xet_store.specs.Plans.{cut_to}
 use Rattle.xet_service.specs.declared.reader.held.HeldTerm.{HeldTerm}
@@ -89,67 +90,99 @@ cut_of_range h chunks = slice_range chunks (h.term.range.start - h.range.chunks.
 abbrev pub has_length : Chunks → HeldTerm → Bool
 has_length chunks h = sum (map length (cut_of_range h chunks)) == h.term.unpacked_length
 
-abbrev pub have_lengths : Chunks → List HeldTerm → Bool
-have_lengths chunks [] = true
-have_lengths chunks (h ∷ hs) = has_length chunks h && have_lengths chunks hs
+abbrev pub chunks_or_none : Option Chunks → Chunks
+chunks_or_none None = []
+chunks_or_none (Some chunks) = chunks
 
--- the range has its number of chunks, and those of each term that it holds have the term's length
-abbrev pub fits : XorbRangeDescriptor → List HeldTerm → Chunks → Bool
-fits range held chunks = (length chunks == range.chunks.end - range.chunks.start) && have_lengths chunks held
+-- the chunks of the range of this number
+abbrev pub nth_chunks : List Chunks → ℕ → Chunks
+nth_chunks got n = chunks_or_none (slice_get got n)
 
--- the one range of a link that has one
-abbrev pub only_range : List XorbRangeDescriptor → Option XorbRangeDescriptor
-only_range [] = None
-only_range (r ∷ []) = Some r
-only_range (r ∷ (q ∷ rs)) = None
+-- each term's chunks, of those of the range that holds it, have its length
+abbrev pub have_lengths : List Chunks → List HeldTerm → Bool
+have_lengths got [] = true
+have_lengths got (h ∷ hs) = has_length (nth_chunks got h.range.number) h && have_lengths got hs
 
--- the body is as long as the range, and is whole chunks, which fit
-pub record Spells (range : XorbRangeDescriptor) (held : List HeldTerm) (body : List ℕ) (chunks : Chunks) : Type 0 where
-  pub sized : length body ≡ bytes_in range.bytes
-  pub whole : AreWholeChunks body chunks
-  pub fit : fits range held chunks ≡ true
+-- each range has its number of chunks
+abbrev pub have_counts : List XorbRangeDescriptor → List Chunks → Bool
+have_counts [] [] = true
+have_counts [] (c ∷ got) = false
+have_counts (r ∷ rs) [] = false
+have_counts (r ∷ rs) (c ∷ got) = (length c == r.chunks.end - r.chunks.start) && have_counts rs got
 
--- it is as long as the range, and isn't whole chunks
-pub record IsBroken (range : XorbRangeDescriptor) (body : List ℕ) : Type 0 where
-  pub sized : length body ≡ bytes_in range.bytes
-  pub none : (chunks : Chunks) → AreWholeChunks body chunks → ⊥
+-- each range has its number of chunks, and those of each term have the term's length
+abbrev pub fits : List XorbRangeDescriptor → List HeldTerm → List Chunks → Bool
+fits ranges held got = have_counts ranges got && have_lengths got held
 
--- it is as long as the range, and is whole chunks, which don't fit
-pub record IsMisfit (range : XorbRangeDescriptor) (held : List HeldTerm) (body : List ℕ) : Type 0 where
-  pub sized : length body ≡ bytes_in range.bytes
-  pub chunks : Chunks
-  pub whole : AreWholeChunks body chunks
-  pub misfit : fits range held chunks ≡ false
+-- each part is whole chunks
+abbrev pub AreAllWhole : List (List ℕ) → List Chunks → Type 0
+AreAllWhole [] [] = Unit {0}
+AreAllWhole [] (c ∷ got) = ⊥
+AreAllWhole (p ∷ parts) [] = ⊥
+AreAllWhole (p ∷ parts) (c ∷ got) = AreWholeChunks p c × AreAllWhole parts got
 
--- What a body brings of one range; `is` says which answer stands for its chunks.
-abbrev pub BringsOne : {T : Type 0} → (Chunks → T → Type 0) → XorbRangeDescriptor → List HeldTerm → List ℕ → Result T Refusal → Type 0
-BringsOne is range held body (Ok got) = (chunks : Chunks) × (Spells range held body chunks × is chunks got)
-BringsOne is range held body (Err Other) = length body ≡ bytes_in range.bytes → ⊥
-BringsOne is range held body (Err (FormatError faults.Xorb)) = IsBroken range body
-BringsOne is range held body (Err (FormatError faults.Body)) = IsMisfit range held body
-BringsOne is range held body (Err e) = ⊥
+abbrev pub range_of_part : Part → Range ℕ _H
+range_of_part p = p.range
 
--- A plain body is for one range.
-abbrev pub BringsPlain : {T : Type 0} → (Chunks → T → Type 0) → Option XorbRangeDescriptor → List HeldTerm → List ℕ → Result T Refusal → Type 0
-BringsPlain is None held body r = r ≡ Err Other
-BringsPlain is (Some range) held body r = BringsOne is range held body r
+abbrev pub range_bytes : XorbRangeDescriptor → Range ℕ _H
+range_bytes r = r.bytes
 
--- What a body brings of a link. Bodies in several parts aren't read yet.
-abbrev pub Brings : {T : Type 0} → (Chunks → T → Type 0) → ReadLink → List ℕ → List ℕ → Result T Refusal → Type 0
-Brings is link content_type body r =
-    (IsMultipart content_type × (r ≡ Err Other)) ⊎ ((IsMultipart content_type → ⊥) × BringsPlain is (only_range link.ranges) link.held body r)
+-- The body is read as parts which, in order of start, are those of these ranges in order (RFC 7233, 4.1).
+pub record IsReadInParts (ranges : List XorbRangeDescriptor) (content_type body : List ℕ) (parts : List (List ℕ)) : Type 0 where
+  pub read : List Part
+  pub is : IsReadAs content_type body read
+  pub same : map range_of_part read ≡ map range_bytes ranges
+  pub contents : parts ≡ map content_of read
 
-abbrev pub BringsTo : {T : Type 0} → (Chunks → T → Type 0) → Option ReadLink → List ℕ → List ℕ → Result T Refusal → Type 0
-BringsTo is None content_type body r = r ≡ Err InvalidArguments
-BringsTo is (Some link) content_type body r = Brings is link content_type body r
+-- where the content type says so, the body is in parts; else it is one
+abbrev pub IsCutInto : List XorbRangeDescriptor → List ℕ → List ℕ → List (List ℕ) → Type 0
+IsCutInto ranges content_type body parts = (IsMultipart content_type × IsReadInParts ranges content_type body parts) ⊎ ((IsMultipart content_type → ⊥) × (parts ≡ body ∷ []))
 
--- the chunks of one range
-abbrev pub IsOne : Chunks → List Chunks → Type 0
-IsOne chunks got = got ≡ chunks ∷ []
+-- there is a part for each range, and it is as long as the range
+abbrev pub AreSized : List XorbRangeDescriptor → List (List ℕ) → Type 0
+AreSized ranges parts = map length parts ≡ map (λ (r : XorbRangeDescriptor). bytes_in r.bytes) ranges
+
+-- the parts of a body for ranges
+pub record HasParts (ranges : List XorbRangeDescriptor) (content_type body : List ℕ) (parts : List (List ℕ)) : Type 0 where
+  pub cut : IsCutInto ranges content_type body parts
+  pub sized : AreSized ranges parts
+
+-- the body has parts for the link's ranges, each of which is whole chunks, and they fit
+pub record Spells (link : ReadLink) (content_type body : List ℕ) (got : List Chunks) : Type 0 where
+  pub parts : List (List ℕ)
+  pub has : HasParts link.ranges content_type body parts
+  pub whole : AreAllWhole parts got
+  pub fit : fits link.ranges link.held got ≡ true
+
+-- it has parts for them, not all of which are whole chunks
+pub record IsBroken (link : ReadLink) (content_type body : List ℕ) : Type 0 where
+  pub parts : List (List ℕ)
+  pub has : HasParts link.ranges content_type body parts
+  pub none : (got : List Chunks) → AreAllWhole parts got → ⊥
+
+-- it has parts for them, which are whole chunks, and they don't fit
+pub record IsMisfit (link : ReadLink) (content_type body : List ℕ) : Type 0 where
+  pub parts : List (List ℕ)
+  pub has : HasParts link.ranges content_type body parts
+  pub got : List Chunks
+  pub whole : AreAllWhole parts got
+  pub misfit : fits link.ranges link.held got ≡ false
+
+-- What a body brings of a link: the chunks of each range.
+abbrev pub Brings : ReadLink → List ℕ → List ℕ → Result (List Chunks) Refusal → Type 0
+Brings link content_type body (Ok got) = Spells link content_type body got
+Brings link content_type body (Err Other) = (parts : List (List ℕ)) → HasParts link.ranges content_type body parts → ⊥
+Brings link content_type body (Err (FormatError faults.Xorb)) = IsBroken link content_type body
+Brings link content_type body (Err (FormatError faults.Body)) = IsMisfit link content_type body
+Brings link content_type body (Err e) = ⊥
+
+abbrev pub BringsTo : Option ReadLink → List ℕ → List ℕ → Result (List Chunks) Refusal → Type 0
+BringsTo None content_type body r = r ≡ Err InvalidArguments
+BringsTo (Some link) content_type body r = Brings link content_type body r
 
 -- a body for the link of this number gives these chunks, or is refused so
 abbrev pub Gives : List ReadLink → ℕ → List ℕ → List ℕ → Result (List Chunks) Refusal → Type 0
-Gives links n content_type body r = BringsTo IsOne (left_link links n) content_type body r
+Gives links n content_type body r = BringsTo (left_link links n) content_type body r
 
 -- A link that is left takes the chunks that the body spells; a refused body changes nothing.
 abbrev pub Accepts : Reading → ℕ → List ℕ → List ℕ → Result (Unit {0}) Refusal → Reading → Type 0
@@ -158,13 +191,9 @@ Accepts old n content_type body (Err why) new = Gives old.links n content_type b
 
 -- ---- the bytes that were read
 
-abbrev pub chunks_or_none : Option Chunks → Chunks
-chunks_or_none None = []
-chunks_or_none (Some chunks) = chunks
-
 abbrev pub got_of_range : Option (List Chunks) → ℕ → Chunks
 got_of_range None n = []
-got_of_range (Some got) n = chunks_or_none (slice_get got n)
+got_of_range (Some got) n = nth_chunks got n
 
 -- what a link brought of its range of this number
 abbrev pub got_of_link : Option ReadLink → ℕ → Chunks

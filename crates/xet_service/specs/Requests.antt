@@ -4,12 +4,13 @@ use Rattle.std.specs.FinMap.{get}
 use Rattle.xet_types.specs.declared.error.Refusal.{Refusal}
 use Rattle.xet_types.specs.declared.error.Refusal.TheVariants.{FormatError, InvalidRange, InvalidArguments, XORBNotFound, PresignedUrlExpirationError, Other}
 use Rattle.xet_types.specs.declared.error.FormatFault.TheVariants as faults
-use Rattle.xet_store.specs.Refusals.{OfOutside, OfXorbUpload, OfShardUpload, OfShardDeletion, OfFileSize, OfPlan, OfFileData}
+use Rattle.xet_store.specs.Refusals.{OfOutside, OfSetting, OfXorbUpload, OfShardUpload, OfShardDeletion, OfFileSize, OfPlan, OfFileData, OfListing, OfCheck, OfGenerated}
 use Rattle.xet_service.specs.declared.step.Act.{Act}
-use Rattle.xet_service.specs.declared.step.Act.TheVariants.{UploadXorb, UploadShard, Plan, Fetch, Abandon, HideFile, DeleteShard, DeleteXorb, SetExpiration, FileSize, FileData}
+use Rattle.xet_service.specs.declared.step.Act.TheVariants.{UploadXorb, UploadShard, Plan, Fetch, Abandon, HideFile, DeleteShard, DeleteXorb, SetExpiration, SetMaxRanges, FileSize, FileData, SetDedupExpiration, DedupQuery, RemoveDedup, ListXorbs, ListShards, ListFiles, CheckIntegrity, CheckReachable, CheckReadable, InsertRandomXorb}
 use Rattle.xet_service.specs.declared.reply.Reply.{Reply}
 use Rattle.xet_service.specs.declared.reply.Reply.TheVariants.{Refused}
 use Rattle.xet_service.specs.declared.read.OpenRead.{OpenRead}
+use Rattle.xet_service.specs.Bodies.{Body}
 use Rattle.xet_service.specs.Reading.{count_left}
 use Rattle.xet_service.specs.World.{Reads}
 use Rattle.xet_service.specs.Steps.{TakesBody}
@@ -48,6 +49,17 @@ OfAct (HideFile file) why = OfOutside why
 OfAct (DeleteShard shard) why = OfShardDeletion why
 OfAct (DeleteXorb xorb) why = OfOutside why
 OfAct (SetExpiration millis) why = OfOutside why
+OfAct (SetDedupExpiration millis) why = OfOutside why
+OfAct (DedupQuery chunk) why = OfListing why
+OfAct (SetMaxRanges max) why = OfSetting why
+OfAct (RemoveDedup shard) why = OfOutside why
+OfAct ListXorbs why = OfOutside why
+OfAct ListShards why = OfOutside why
+OfAct ListFiles why = OfOutside why
+OfAct CheckIntegrity why = OfCheck why
+OfAct CheckReachable why = OfCheck why
+OfAct CheckReadable why = OfCheck why
+OfAct (InsertRandomXorb seed count size) why = OfGenerated why
 OfAct (FileSize file) why = OfFileSize file why
 OfAct (FileData file range) why = OfFileData file why
 
@@ -71,5 +83,5 @@ abbrev pub IsWantedAt : Reads → ℕ → ℕ → Type 0
 IsWantedAt reads n left = (r : OpenRead) × ((get reads n ≡ Some r) × (left ≡ count_left r.reader.links - 1))
 
 -- the read of the number takes the body
-abbrev pub TakesAt : Reads → ℕ → ℕ → List ℕ → Result Reply Refusal → Reads → Type 0
+abbrev pub TakesAt : Reads → ℕ → ℕ → Body → Result Reply Refusal → Reads → Type 0
 TakesAt old read link body result new = (r : OpenRead) × ((get old read ≡ Some r) × TakesBody old read link r body result new)

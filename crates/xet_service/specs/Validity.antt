@@ -13,14 +13,14 @@ use Rattle.xet_store.specs.StoreModel.{StoreModel, Chunks, stored, listing, know
 use Rattle.xet_service.specs.declared.step.Act.{Act}
 use Rattle.xet_service.specs.declared.step.Act.TheVariants.{Plan, Fetch, Abandon}
 use Rattle.xet_service.specs.declared.step.PlanVersion.{PlanVersion}
-use Rattle.xet_service.specs.declared.step.PlanVersion.TheVariants.{V1}
 use Rattle.xet_service.specs.declared.reply.PlannedLink.{PlannedLink}
 use Rattle.xet_service.specs.declared.reply.Reply.{Reply}
 use Rattle.xet_service.specs.declared.reply.Reply.TheVariants.{Planned, Fetched, Finished}
 use Rattle.std.specs.FinMap as finmap
 use Rattle.xet_types.specs.Faults.{Rose}
 use Rattle.xet_service.specs.World.{State}
-use Rattle.xet_service.specs.Steps.{used_up, no_note, is_expired}
+use Rattle.xet_store.specs.TermData.{is_expired}
+use Rattle.xet_service.specs.Steps.{used_up, no_note}
 use Rattle.xet_service.specs.Runs.{Event}
 
 -- ---- agreement
@@ -116,16 +116,16 @@ abbrev pub all_left : List PlannedLink → List Bool
 all_left links = map (λ l. true) links
 
 -- The plan answers its links, and where the steps after it are valid they succeed, the last fetch finishing the read.
-pub record IsReadWell (e : Event) (es : List Event) : Type 0 where
+pub record IsReadWell (version : PlanVersion) (e : Event) (es : List Event) : Type 0 where
   pub offset : ℕ
   pub terms : List XorbReconstructionTerm
   pub links : List PlannedLink
-  pub reply : e.reply ≡ Planned e.before.state.next V1 offset terms links
+  pub reply : e.reply ≡ Planned e.before.state.next version offset terms links
   pub some : 0 < length links
   pub rest : IsValidRest e.before.state.next e.step.at links (all_left links) es → AnsweredRest e.before.state.next (all_left links) es
 
 abbrev pub ReadSucceeds : Event → List Event → Type 0
-ReadSucceeds e es = (version : PlanVersion) (file : List ℕ) (range : Option (Range ℕ _F)) → e.step.act ≡ Plan version file range → IsServed e file range → IsReadWell e es
+ReadSucceeds e es = (version : PlanVersion) (file : List ℕ) (range : Option (Range ℕ _F)) → e.step.act ≡ Plan version file range → IsServed e file range → IsReadWell version e es
 
 abbrev pub ReadsSucceed : List Event → Type 0
 ReadsSucceed [] = Unit {0}

@@ -1,5 +1,5 @@
 -- The state of a service.
-use Rattle.std.specs.Prelude.{◌≡◌, ℕ, ◌<◌, [], ◌∷◌, Some}
+use Rattle.std.specs.Prelude.{◌≡◌, ℕ, ◌<◌, ◌≤◌, List, [], ◌∷◌, Some}
 use Rattle.std.specs.Ordering.{nat_cmp}
 use Rattle.std.specs.List.{AllByRecursion}
 use Rattle.std.specs.FinMap.{FinMap, get}
@@ -27,13 +27,17 @@ state store reads next = record { store = store; reads = reads; next = next }
 abbrev pub start : State
 start = state empty finmap.empty 0
 
--- the link has one range, whose bytes end below the last place
-pub record HasOneRange (l : ReadLink) : Type 0 where
-  pub range : XorbRangeDescriptor
-  pub only : l.ranges ≡ range ∷ []
-  pub below : range.bytes.end < last_place
+-- each range's bytes begin no earlier than those of the one before it, the first no earlier than a place
+abbrev pub RisesFrom : ℕ → List XorbRangeDescriptor → Type 0
+RisesFrom from [] = Unit {0}
+RisesFrom from (r ∷ rs) = (from ≤ r.bytes.start) × RisesFrom r.bytes.start rs
 
--- the numbers of open reads were given, and each of their links has one range
+-- the bytes of the link's ranges rise, and end below the last place
+pub record IsOrderly (l : ReadLink) : Type 0 where
+  pub rises : RisesFrom 0 l.ranges
+  pub below : AllByRecursion (λ (r : XorbRangeDescriptor). r.bytes.end < last_place) l.ranges
+
+-- the numbers of open reads were given, and the ranges of each of their links are in order
 pub record IsInOrder (s : State) : Type 0 where
   pub numbered : (n : ℕ) (r : OpenRead) → get s.reads n ≡ Some r → n < s.next
-  pub of_one : (n : ℕ) (r : OpenRead) → get s.reads n ≡ Some r → AllByRecursion HasOneRange r.reader.links
+  pub orderly : (n : ℕ) (r : OpenRead) → get s.reads n ≡ Some r → AllByRecursion IsOrderly r.reader.links

@@ -12,6 +12,7 @@ mod held;
 mod join;
 pub(crate) mod link;
 mod order;
+mod parts;
 
 use crate::pieces::Pieces;
 use bytes::Bytes;
@@ -133,11 +134,11 @@ impl Reader {
 
     /// Takes the body of a link that is left.
     ///
-    /// A body is multipart exactly where its content type contains `multipart/byteranges`, else it is plain. In this order:
-    /// `InvalidArguments` where the link isn't left; `Other` where the body is multipart, which isn't read yet, or is plain
-    /// and the link has another number of ranges than one, or isn't as long as the one range; `FormatError(Xorb)` where the
-    /// bytes aren't whole chunks; `FormatError(Body)` where the range hasn't its number of chunks, or a term's chunks in it
-    /// don't sum to its length. A refusal leaves the reader as it was. The chunks are slices of the body.
+    /// A body is in parts exactly where its content type contains `multipart/byteranges` (RFC 7233 section 4.1), else it is one part. In
+    /// this order: `InvalidArguments` where the link isn't left; `Other` where a body in parts can't be read, its parts in order of
+    /// start aren't the link's ranges, or a part isn't as long as its range; `FormatError(Xorb)` where a part isn't whole chunks;
+    /// `FormatError(Body)` where a range hasn't its number of chunks, or a term's chunks don't sum to its length. A refusal leaves the
+    /// reader as it was. The chunks are slices of the body.
     pub fn accept(
         &mut self,
         alloc: Global,

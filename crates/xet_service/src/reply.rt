@@ -79,6 +79,16 @@ pub enum Reply {
         wire: u64,
         cache: CacheNote,
     },
+    /// The chunk has no entry, or its shard isn't stored.
+    NoShard,
+    /// The bytes of the shard that has the chunk.
+    ShardBytes(Octets),
+    /// Hashes in order.
+    Hashes(Items<MerkleHash>),
+    /// Files with the shards that list them, in order of file, then of shard.
+    Files(Items<(MerkleHash, MerkleHash)>),
+    /// The name of the generated xorb.
+    Random(MerkleHash),
     /// How many bytes the file has.
     Size(u64),
     /// The file's bytes.

@@ -2,25 +2,26 @@
 ghost use Rattle.std.specs.Prelude.{◌≡◌, Some, Err, IfOk, OnErr};
 ghost use Rattle.std.specs.FinMap.{get, insert};
 ghost use Rattle.std.specs.FinMap as finmap;
-ghost use Rattle.xet_types.specs.Records.{second_of};
 ghost use Rattle.xet_plan.specs.Footers.{FailsOnlyByFault};
 ghost use Rattle.xet_store.specs.StoreModel.{StoreModel};
-ghost use Rattle.xet_store.specs.Commands.{UploadsXorb, UploadsShard};
-ghost use Rattle.xet_store.specs.Told.{Follows, Leaves};
+ghost use Rattle.xet_store.specs.Commands.{UploadsXorb, UploadsShard, InsertsSeeded};
+ghost use Rattle.xet_store.specs.Told.{Asks, Follows, Leaves};
+ghost use Rattle.xet_store.specs.TermData.{is_expired};
+ghost use Rattle.xet_store.specs.Responses.{RespondsBy};
 ghost use Rattle.xet_store.specs.Answered.{Answered};
-ghost use Rattle.xet_store.specs.Refusals.{RefusedBy, OfXorbUpload, OfShardUpload};
-ghost use Rattle.xet_service.specs.declared.reply.Reply.TheVariants.{Uploaded, ShardTaken, Size, Data};
+ghost use Rattle.xet_store.specs.Refusals.{RefusedBy, OfPlan, OfXorbUpload, OfShardUpload, OfGenerated};
+ghost use Rattle.xet_service.specs.declared.reply.Reply.TheVariants.{Uploaded, ShardTaken, Size, Data, Random};
 ghost use Rattle.xet_service.specs.declared.step.Act.TheVariants.{Fetch};
 ghost use Rattle.xet_service.specs.World.{state};
 ghost use Rattle.xet_service.specs.Causes.{IsAsked};
-ghost use Rattle.xet_service.specs.Steps.{Acts, Does, Fetches, PlansBy, map_ok, was_done, no_note, open_plan, abandon_step, is_expired};
+ghost use Rattle.xet_service.specs.Steps.{Acts, Does, Fetches, PlansBy, map_ok, was_done, no_note, open_plan, abandon_step, asked_bytes, shard_reply, hashes_reply, files_reply};
+ghost use Rattle.xet_service.specs.Links.{answer_of};
 ghost use Rattle.xet_service.specs.Requests.{OfAct, OfPlanAct, OfFetch, OfLink, IsAnswer, IsOpenAt, IsWantedAt, KeepsReads, TakesAt};
 
 use crate::body::{TermBody, fetch_term_body};
 use crate::links::links_of;
 use crate::pieces::Pieces;
 use crate::read::OpenRead;
-use crate::reader::link::{only_range, unlike};
 use crate::reader::{Reader, take_body};
 use crate::reply::{CacheNote, Reply};
 use crate::step::{Act, PlanVersion};
@@ -29,10 +30,10 @@ use std::alloc::Global;
 use xet_bytes::ByNumber;
 use xet_store::Store;
 use xet_types::{
-    ClientError, FileRange, Items, MerkleHash, Octets, OutOfMemory, QueryReconstructionResponse,
-    QueryReconstructionResponseV2,
+    ClientError, FileRange, Items, MerkleHash, Octets, OutOfMemory, QueryReconstructionResponseV2,
+    XorbRangeDescriptor,
 };
-use xet_xorb::SerializedXorbObject;
+use xet_xorb::{RandomXorb, SerializedXorbObject};
 
 /// A store and the open reads of its files.
 #[derive(Drop)]
@@ -109,6 +110,51 @@ fn done(answer: Result<(), ClientError>) -> Result<Reply, ClientError>
     }
 }
 
+/// The reply of a query for a chunk.
+fn dedup(answer: Result<Option<Bytes>, ClientError>) -> Result<Reply, ClientError>
+    ensures reply { result ≡ map_ok shard_reply answer }
+    ensures answers { IfOk result IsAnswer }
+{
+    match answer {
+        Ok(Some(bytes)) => Ok(Reply::ShardBytes(Octets::from_bytes(bytes))),
+        Ok(None) => Ok(Reply::NoShard),
+        Err(error) => Err(error),
+    }
+}
+
+/// The reply of a list of hashes.
+fn hashes(answer: Result<Vec<MerkleHash>, ClientError>) -> Result<Reply, ClientError>
+    ensures reply { result ≡ map_ok hashes_reply answer }
+    ensures answers { IfOk result IsAnswer }
+{
+    match answer {
+        Ok(hashes) => Ok(Reply::Hashes(Items::from_vec(hashes))),
+        Err(error) => Err(error),
+    }
+}
+
+/// The reply of a list of files.
+fn files(answer: Result<Vec<(MerkleHash, MerkleHash)>, ClientError>) -> Result<Reply, ClientError>
+    ensures reply { result ≡ map_ok files_reply answer }
+    ensures answers { IfOk result IsAnswer }
+{
+    match answer {
+        Ok(files) => Ok(Reply::Files(Items::from_vec(files))),
+        Err(error) => Err(error),
+    }
+}
+
+/// The reply of a generated xorb's insertion.
+fn random(answer: Result<MerkleHash, ClientError>) -> Result<Reply, ClientError>
+    ensures reply { result ≡ map_ok Random answer }
+    ensures answers { IfOk result IsAnswer }
+{
+    match answer {
+        Ok(hash) => Ok(Reply::Random(hash)),
+        Err(error) => Err(error),
+    }
+}
+
 /// The reply of a file's size.
 fn size(answer: Result<u64, ClientError>) -> Result<Reply, ClientError>
     ensures reply { result ≡ map_ok Size answer }
@@ -166,6 +212,57 @@ fn upload_shard<K: Store>(
     store.upload_shard(alloc, content)
 }
 
+/// The store's plan of a file in a version, as one of version 2.
+fn ask_plan<K: Store>(
+    alloc: Global,
+    store: &mut K,
+    version: PlanVersion,
+    file: &MerkleHash,
+    range: Option<FileRange>,
+    at: u64,
+) -> Result<Option<QueryReconstructionResponseV2>, ClientError>
+    ensures told { (m : StoreModel) → K.Client.told store.old ≡ Some m → Asks (RespondsBy (answer_of version m.max_ranges at) m file.now range) result }
+    ensures refusals { RefusedBy OfPlan result }
+    ensures stays { K.Client.told store.new ≡ K.Client.told store.old }
+    ensures cause { FailsOnlyByFault (K.Client.faults store.old) (K.Client.faults store.new) result }
+{
+    if version == PlanVersion::V2 {
+        return store.get_reconstruction_v2(alloc, file, range, at);
+    }
+    let Some(plan) = store.get_reconstruction_v1(alloc, file, range, at)? else {
+        return Ok(None);
+    };
+    let plan = QueryReconstructionResponseV2::from_v1(alloc, plan)?;
+    Ok(Some(plan))
+}
+
+/// The bytes of ranges, with ends that are excluded.
+fn asked_bytes(alloc: Global, ranges: &[XorbRangeDescriptor]) -> Result<Vec<FileRange>, OutOfMemory>
+    ensures { IfOk result (λ asked. asked.items ≡ asked_bytes ranges.now) }
+{
+    let mut asked = Vec::with_capacity(alloc, ranges.len())?;
+    for range in ranges {
+        asked.push(FileRange::from(range.bytes))?;
+    }
+    Ok(asked)
+}
+
+/// Stores a generated xorb. `InvalidArguments` where so many chunks of this length aren't those of a xorb.
+fn insert_random<K: Store>(
+    alloc: Global,
+    store: &mut K,
+    seed: u64,
+    num_chunks: u32,
+    chunk_size: u32,
+) -> Result<MerkleHash, ClientError>
+    ensures told { (m : StoreModel) → K.Client.told store.old ≡ Some m → Follows (InsertsSeeded m seed num_chunks chunk_size) m result (K.Client.told store.new) }
+    ensures refusals { RefusedBy OfGenerated result }
+    ensures cause { FailsOnlyByFault (K.Client.faults store.old) (K.Client.faults store.new) result }
+{
+    let xorb = RandomXorb::from_seed(alloc, seed, num_chunks, chunk_size)?;
+    store.insert_random_xorb(alloc, xorb)
+}
+
 /// Puts a read at a number at which one is open, and answers that one. Takes no memory.
 fn replace(reads: &mut ByNumber<OpenRead>, number: u64, read: OpenRead) -> OpenRead
     requires present { IsOpenAt reads.old number }
@@ -183,12 +280,13 @@ impl<K> ChunkService<K> {
     fn open(
         &mut self,
         alloc: Global,
-        plan: QueryReconstructionResponse,
+        version: PlanVersion,
+        plan: QueryReconstructionResponseV2,
         range: Option<FileRange>,
         at: u64,
     ) -> Result<Reply, ClientError>
         ensures store { self.new.store ≡ self.old.store }
-        ensures opens { (m : StoreModel) → Answered result (λ r. open_plan (state m self.old.reads self.old.next) (second_of plan) range at ≡ (r, state m self.new.reads self.new.next)) (state m self.new.reads self.new.next ≡ state m self.old.reads self.old.next) }
+        ensures opens { (m : StoreModel) → Answered result (λ r. open_plan (state m self.old.reads self.old.next) version plan range at ≡ (r, state m self.new.reads self.new.next)) (state m self.new.reads self.new.next ≡ state m self.old.reads self.old.next) }
         ensures refusals { RefusedBy OfLink result }
         ensures answers { IfOk result IsAnswer }
         ensures kept { KeepsReads result self.old.reads self.new.reads self.old.next self.new.next }
@@ -197,7 +295,6 @@ impl<K> ChunkService<K> {
         if read == u64::MAX {
             return Err(ClientError::InvalidArguments);
         }
-        let plan = QueryReconstructionResponseV2::from_v1(alloc, plan)?;
         let reader = Reader::open(alloc, &plan, range)?;
         let links = Items::from_vec(links_of(alloc, plan.xorbs)?);
         if links.is_empty() {
@@ -213,7 +310,7 @@ impl<K> ChunkService<K> {
         self.next = read + 1;
         Ok(Reply::Planned {
             read,
-            version: PlanVersion::V1,
+            version,
             offset: plan.offset_into_first_range,
             terms: Items::from_vec(plan.terms),
             links,
@@ -243,22 +340,24 @@ fn take(
     read: u64,
     link: u32,
     left: u32,
-    body: Bytes,
+    sent: TermBody,
 ) -> Result<Reply, ClientError>
     requires { IsWantedAt reads.old read left }
-    ensures takes { Answered result (λ r. TakesAt reads.old read link body r reads.new) (reads.new ≡ reads.old) }
+    ensures takes { Answered result (λ r. TakesAt reads.old read link sent r reads.new) (reads.new ≡ reads.old) }
     ensures refusals { RefusedBy OfFetch result }
     ensures answers { IfOk result IsAnswer }
     ensures kept { OnErr result (reads.new ≡ reads.old) }
     ensures outside { result ≡ Err ClientError.IOError → ⊥ }
 {
-    let wire = body.len() as u64;
+    let wire = sent.body.len() as u64;
+    let body = sent.body.clone()?;
     let empty = OpenRead {
         reader: Reader::empty(alloc),
         stamp: 0,
     };
     let mut open = replace(reads, read, empty);
-    match take_body(alloc, &mut open.reader, link as usize, "", body) {
+    let content_type = sent.type_text();
+    match take_body(alloc, &mut open.reader, link as usize, content_type, body) {
         Ok(None) => {
             replace(reads, read, open);
             Ok(Reply::Fetched {
@@ -293,20 +392,21 @@ impl<K: Store> ChunkService<K> {
     fn plan(
         &mut self,
         alloc: Global,
+        version: PlanVersion,
         file: &MerkleHash,
         range: Option<FileRange>,
         at: u64,
     ) -> Result<Reply, ClientError>
-        ensures told { (m : StoreModel) → K.Client.told self.old.store ≡ Some m → Leaves (λ after. Does (PlansBy (state m self.old.reads self.old.next) file.now range at) (state m self.old.reads self.old.next) result (state after self.new.reads self.new.next)) (K.Client.told self.new.store) }
+        ensures told { (m : StoreModel) → K.Client.told self.old.store ≡ Some m → Leaves (λ after. Does (PlansBy (state m self.old.reads self.old.next) version file.now range at) (state m self.old.reads self.old.next) result (state after self.new.reads self.new.next)) (K.Client.told self.new.store) }
         ensures refusals { RefusedBy OfPlanAct result }
         ensures answers { IfOk result IsAnswer }
         ensures kept { KeepsReads result self.old.reads self.new.reads self.old.next self.new.next }
         ensures cause { FailsOnlyByFault (K.Client.faults self.old.store) (K.Client.faults self.new.store) result }
     {
-        let Some(plan) = self.store.get_reconstruction_v1(alloc, file, range, at)? else {
+        let Some(plan) = ask_plan(alloc, &mut self.store, version, file, range, at)? else {
             return Ok(Reply::NoPlan);
         };
-        self.open(alloc, plan, range, at)
+        self.open(alloc, version, plan, range, at)
     }
 
     /// Fetches a link of an open read, and finishes the read with the last one.
@@ -333,12 +433,9 @@ impl<K: Store> ChunkService<K> {
         let Ok(left) = u32::try_from(open.reader.left().saturating_sub(1)) else {
             return Err(ClientError::OutOfMemory);
         };
-        let Some(range) = only_range(wanted.ranges.as_slice()) else {
-            return Err(unlike(alloc));
-        };
-        let range = FileRange::from(range.bytes);
-        let TermBody { body, .. } = fetch_term_body(alloc, &mut self.store, &wanted.hash, range)?;
-        take(alloc, &mut self.reads, read, link, left, body)
+        let ranges = asked_bytes(alloc, wanted.ranges.as_slice())?;
+        let sent = fetch_term_body(alloc, &mut self.store, &wanted.hash, &ranges)?;
+        take(alloc, &mut self.reads, read, link, left, sent)
     }
 
     /// Does what is asked at a moment in milliseconds. A refused act changes nothing.
@@ -357,7 +454,11 @@ impl<K: Store> ChunkService<K> {
             Act::UploadShard { content } => {
                 shard_taken(upload_shard(alloc, &mut self.store, content))
             }
-            Act::Plan { file, range, .. } => self.plan(alloc, file, *range, at),
+            Act::Plan {
+                version,
+                file,
+                range,
+            } => self.plan(alloc, *version, file, *range, at),
             Act::Fetch { read, link } => self.fetch(alloc, *read, *link, at),
             Act::Abandon { read } => self.abandon(*read),
             Act::HideFile { file } => done(self.store.delete_file_entry(alloc, file)),
@@ -366,6 +467,32 @@ impl<K: Store> ChunkService<K> {
             Act::SetExpiration { millis } => {
                 done(self.store.set_fetch_term_url_expiration(*millis))
             }
+            Act::SetDedupExpiration { millis } => {
+                done(self.store.set_global_dedup_shard_expiration(*millis))
+            }
+            Act::DedupQuery { chunk } => {
+                dedup(
+                    self.store
+                        .query_for_global_dedup_shard(alloc, "default", chunk, at),
+                )
+            }
+            Act::SetMaxRanges { max } => {
+                done(self.store.set_max_ranges_per_fetch(*max as usize))
+            }
+            Act::RemoveDedup { shard } => {
+                done(self.store.remove_shard_dedup_entries(alloc, shard))
+            }
+            Act::ListXorbs => hashes(self.store.list_xorbs(alloc)),
+            Act::ListShards => hashes(self.store.list_shard_entries(alloc)),
+            Act::ListFiles => files(self.store.list_file_shard_entries(alloc)),
+            Act::CheckIntegrity => done(self.store.verify_integrity(alloc)),
+            Act::CheckReachable => done(self.store.verify_all_reachable(alloc)),
+            Act::CheckReadable => done(self.store.verify_readable(alloc)),
+            Act::InsertRandomXorb {
+                seed,
+                num_chunks,
+                chunk_size,
+            } => { random(insert_random(alloc, &mut self.store, *seed, *num_chunks, *chunk_size)) }
             Act::FileSize { file } => size(self.store.get_file_size(alloc, file)),
             Act::FileData { file, range } => data(self.store.get_file_data(alloc, file, *range)),
         }

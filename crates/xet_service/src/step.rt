@@ -1,10 +1,11 @@
 //! What a reader or a writer asks.
 use xet_types::{FileRange, MerkleHash, Octets};
 
-/// The form of a plan: with version 1 each run of a xorb's chunks has a link of its own.
+/// The form of a plan: with version 1 each run of a xorb's chunks has a link of its own; with version 2 a link may bring several runs.
 #[derive(Clone, Copy, Debug, PartialEq, Eq)]
 pub enum PlanVersion {
     V1,
+    V2,
 }
 
 /// What is asked.
@@ -57,6 +58,44 @@ pub enum Act {
     SetExpiration {
         /// In milliseconds.
         millis: u64,
+    },
+    /// Sets for how long an answer to a query for deduplication is good.
+    SetDedupExpiration {
+        /// In milliseconds. None and 0 mean that answers don't expire.
+        millis: Option<u64>,
+    },
+    /// Asks for the stored shard that has a chunk.
+    DedupQuery {
+        /// The chunk's hash.
+        chunk: MerkleHash,
+    },
+    /// Sets how many runs a link of version 2 brings at most.
+    SetMaxRanges {
+        max: u64,
+    },
+    /// Takes the entries for deduplication out that name a shard.
+    RemoveDedup {
+        /// The shard's name.
+        shard: MerkleHash,
+    },
+    /// Lists the xorbs.
+    ListXorbs,
+    /// Lists the shards.
+    ListShards,
+    /// Lists the files that aren't hidden, with the shards that list them.
+    ListFiles,
+    /// Asks whether each listed xorb is stored, and each segment fits that isn't hidden.
+    CheckIntegrity,
+    /// Asks whether each shard and each xorb is still of use.
+    CheckReachable,
+    /// Asks whether the segments of all live files agree with their xorbs.
+    CheckReadable,
+    /// Stores a generated xorb of so many chunks of one length, whose seeds one seed gives.
+    InsertRandomXorb {
+        seed: u64,
+        num_chunks: u32,
+        /// In bytes.
+        chunk_size: u32,
     },
     /// Asks how many bytes a file has.
     FileSize {

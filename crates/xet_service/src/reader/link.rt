@@ -1,25 +1,22 @@
 //! The links of a reader, and what their bodies bring.
-ghost use Rattle.std.specs.Prelude.{◌≡◌, ◌↔◌, ◌++◌, map, length, sum, IfOk, OnOk, IfSome, IsTrue, slice_get, ⊤};
+ghost use Rattle.std.specs.Prelude.{◌≡◌, ◌↔◌, ◌++◌, map, length, sum, IfOk, OnOk, IsTrue, slice_get, ⊤};
 ghost use Rattle.xet_types.specs.RecordMaps.{listed};
-ghost use Rattle.xet_types.specs.Faults.{refusal_of};
-ghost use Rattle.xet_types.specs.declared.error.Refusal.TheVariants.{Other};
 ghost use Rattle.xet_store.specs.Answered.{Answered};
-ghost use Rattle.xet_service.specs.Reading.{count_left, with_got, without_got, bytes_in, cut_of_range, has_length, have_lengths, fits, only_range, IsMultipart, BringsOne, BringsPlain, Brings, IsOne};
+ghost use Rattle.xet_service.specs.Reading.{count_left, with_got, without_got, cut_of_range, has_length, nth_chunks, have_lengths, have_counts, fits, Brings};
 ghost use Rattle.xet_service.specs.ReadingPlans.{fresh_link, xorb_links, fresh_links, are_apart, all_apart, with_terms};
 ghost use Rattle.xet_service.specs.ReadingSteps.{give_term};
 
 use super::held::HeldTerm;
 use super::join::part;
+use super::parts::{parts_of, read_parts};
 use crate::links::count_links;
 use bytes::Bytes;
-use memchr::memmem;
 use std::alloc::Global;
 use std::collections::BTreeMap;
 use xet_types::{
     ClientError, FormatFault, HexMerkleHash, Items, MerkleHash, OutOfMemory, XorbMultiRangeFetch,
     XorbRangeDescriptor,
 };
-use xet_xorb::read_chunks;
 
 /// A link of a reader.
 #[derive(Debug, Drop)]
@@ -157,13 +154,6 @@ pub fn count_left(links: &[ReadLink]) -> usize
     left
 }
 
-/// Whether a body of this content type has a part for each range.
-fn is_multipart(content_type: &str) -> bool
-    ensures { IsTrue result ↔ IsMultipart content_type.now }
-{
-    memmem::find(content_type.as_bytes(), b"multipart/byteranges").is_some()
-}
-
 /// Whether the chunks have so many bytes together.
 fn are_long(chunks: &[Bytes], bytes: u32) -> bool
     ensures { IsTrue result ↔ (sum (map length chunks.now) ≡ bytes) }
@@ -191,63 +181,51 @@ fn has_length(chunks: &[Bytes], held: &HeldTerm) -> bool
     are_long(own, held.term.unpacked_length)
 }
 
-/// Whether each term's chunks have its length.
-fn have_lengths(chunks: &[Bytes], terms: &[HeldTerm]) -> bool
-    ensures { result ≡ have_lengths chunks.now terms.now }
+/// The chunks of the range of a number, none where there is no such range.
+fn nth_chunks<'a>(got: &'a [Items<Bytes>], number: usize) -> &'a [Bytes]
+    ensures { result.now ≡ nth_chunks got.now number }
+{
+    match got.get(number) {
+        Some(chunks) => chunks.as_slice(),
+        None => &[],
+    }
+}
+
+/// Whether each term's chunks, of those of its range, have its length.
+fn have_lengths(got: &[Items<Bytes>], terms: &[HeldTerm]) -> bool
+    ensures { result ≡ have_lengths got.now terms.now }
 {
     for held in terms {
-        if !has_length(chunks, held) {
+        if !has_length(nth_chunks(got, held.range.number), held) {
             return false;
         }
     }
     true
 }
 
-/// Whether the range has its number of chunks, and those of each term that it holds have the term's length.
-fn fits(range: &XorbRangeDescriptor, held: &[HeldTerm], chunks: &[Bytes]) -> bool
-    ensures { result ≡ fits range.now held.now chunks.now }
+/// Whether each range has its number of chunks.
+fn have_counts(ranges: &[XorbRangeDescriptor], got: &[Items<Bytes>]) -> bool
+    ensures { result ≡ have_counts ranges.now got.now }
 {
-    let count = range.chunks.end.saturating_sub(range.chunks.start);
-    chunks.len() == count as usize && have_lengths(chunks, held)
+    let mut rest = got;
+    for range in ranges {
+        let Some((chunks, others)) = rest.split_first() else {
+            return false;
+        };
+        let count = range.chunks.end.saturating_sub(range.chunks.start);
+        if chunks.len() != count as usize {
+            return false;
+        }
+        rest = others;
+    }
+    rest.is_empty()
 }
 
-/// The one range of a link that has one.
-pub fn only_range(ranges: &[XorbRangeDescriptor]) -> Option<XorbRangeDescriptor>
-    ensures { result ≡ only_range ranges.now }
+/// Whether each range has its number of chunks, and those of each term have the term's length.
+fn fits(ranges: &[XorbRangeDescriptor], held: &[HeldTerm], got: &[Items<Bytes>]) -> bool
+    ensures { result ≡ fits ranges.now held.now got.now }
 {
-    match ranges {
-        [range] => Some(*range),
-        _ => None,
-    }
-}
-
-/// The refusal of a body that isn't the link's.
-pub fn unlike(alloc: Global) -> ClientError
-    ensures { IfSome (refusal_of result) (λ why. why ≡ Other) }
-{
-    match String::from_str(alloc, "the body isn't the link's") {
-        Ok(text) => ClientError::Other(text),
-        Err(_) => ClientError::OutOfMemory,
-    }
-}
-
-/// The chunks that a body spells, which is all of one range.
-fn chunks_of(
-    alloc: Global,
-    range: &XorbRangeDescriptor,
-    held: &[HeldTerm],
-    body: &Bytes,
-) -> Result<Vec<Bytes>, ClientError>
-    ensures { Answered result (λ r. BringsOne (λ chunks got. got.items ≡ chunks) range.now held.now body.now r) ⊤ }
-{
-    if range.bytes.length() != body.len() as u64 {
-        return Err(unlike(alloc));
-    }
-    let chunks = read_chunks(alloc, body)?;
-    if !fits(range, held, &chunks) {
-        return Err(ClientError::FormatError(FormatFault::Body));
-    }
-    Ok(chunks)
+    have_counts(ranges, got) && have_lengths(got, held)
 }
 
 impl ReadLink {
@@ -258,17 +236,14 @@ impl ReadLink {
         content_type: &str,
         body: &Bytes,
     ) -> Result<Items<Items<Bytes>>, ClientError>
-        ensures { Answered result (λ r. Brings IsOne self.now content_type.now body.now r) ⊤ }
+        ensures { Answered result (λ r. Brings self.now content_type.now body.now r) ⊤ }
     {
-        if is_multipart(content_type) {
-            return Err(unlike(alloc));
+        let ranges = self.ranges.as_slice();
+        let parts = parts_of(alloc, ranges, content_type, body)?;
+        let got = read_parts(alloc, parts.as_slice())?;
+        if !fits(ranges, self.held.as_slice(), got.as_slice()) {
+            return Err(ClientError::FormatError(FormatFault::Body));
         }
-        let Some(range) = only_range(self.ranges.as_slice()) else {
-            return Err(unlike(alloc));
-        };
-        let mut got = Vec::with_capacity(alloc, 1)?;
-        let chunks = chunks_of(alloc, &range, self.held.as_slice(), body)?;
-        got.push(Items::from_vec(chunks))?;
-        Ok(Items::from_vec(got))
+        Ok(got)
     }
 }

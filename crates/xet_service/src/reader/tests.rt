@@ -166,6 +166,55 @@ fn takes_what_the_link_holds(rt: HostRuntime) -> Result<(), Fail> {
     Ok(())
 }
 
+/// A part of eleven bytes that says it is of a hundred.
+const SHORT_PART: &[u8] =
+    b"--abc123\r\nContent-Range: bytes 0-99/1000\r\n\r\nHello World\r\n--abc123--\r\n";
+
+/// The two chunks, in parts.
+const IN_ORDER: &[u8] =
+    b"--abc123\r\nContent-Range: bytes 0-11/152\r\n\r\n\x00\x04\x00\x00\x00\x04\x00\x00abcd\r\n--abc123\r\nContent-Range: bytes 12-23/152\r\n\r\n\x00\x04\x00\x00\x00\x04\x00\x00efgh\r\n--abc123--\r\n";
+
+/// The same parts, the last first.
+const REVERSED: &[u8] =
+    b"--abc123\r\nContent-Range: bytes 12-23/152\r\n\r\n\x00\x04\x00\x00\x00\x04\x00\x00efgh\r\n--abc123\r\nContent-Range: bytes 0-11/152\r\n\r\n\x00\x04\x00\x00\x00\x04\x00\x00abcd\r\n--abc123--\r\n";
+
+/// Why a link of these ranges refuses a body in parts, if it does.
+fn refusal_in_parts(
+    alloc: Global,
+    terms: &[TermRow],
+    link: &[RangeRow],
+    body: &[u8],
+) -> Result<Option<Refusal>, ClientError> {
+    let plan = plan_of(alloc, 0, terms, &[link])?;
+    let mut reader = Reader::open(alloc, &plan, None)?;
+    let body = Bytes::copy_from_slice(alloc, body)?;
+    match reader.accept(alloc, 0, "multipart/byteranges; boundary=abc123", body) {
+        Ok(()) => Ok(None),
+        Err(error) => Ok(error.refusal()),
+    }
+}
+
+#[test]
+fn takes_parts_of_the_links_ranges(rt: HostRuntime) -> Result<(), Fail> {
+    let alloc = rt.alloc();
+    let hundred: &[RangeRow] = &[(0, 1, 0, 99)];
+    let both: &[RangeRow] = &[(0, 1, 0, 11), (1, 2, 12, 23)];
+    let first: &[RangeRow] = &[(0, 1, 0, 11)];
+    let halves: &[TermRow] = &[(0, 1, 4), (1, 2, 4)];
+    let rows: [(&[TermRow], &[RangeRow], &[u8], Option<Refusal>); 5] = [
+        (&[(0, 1, 92)], hundred, SHORT_PART, Some(Refusal::Other)),
+        (halves, both, IN_ORDER, None),
+        (halves, both, REVERSED, None),
+        (&[(0, 1, 4)], first, IN_ORDER, Some(Refusal::Other)),
+        (halves, both, SHORT_PART, Some(Refusal::Other)),
+    ];
+    for (terms, link, body, why) in rows {
+        let refused = refusal_in_parts(alloc, terms, link, body)?;
+        assert!(rt; refused == why);
+    }
+    Ok(())
+}
+
 /// Takes a body of one chunk.
 fn take(reader: &mut Reader, alloc: Global, link: usize, body: &[u8]) -> Result<bool, ClientError> {
     let body = Bytes::copy_from_slice(alloc, body)?;

@@ -2,7 +2,7 @@ use Rattle.std.proofs.Common.{◌∙◌, List, ℕ, sym, subst}
 use Rattle.memchr.specs.Find.{FindsNeedle}
 use Rattle.xet_service.specs.Reading.{multipart_type}
 use Rattle.xet_service.proofs.ReaderBodies.{found}
-use Rattle.xet_service.proofs.reader.link.is_multipart.Goals as goal
+use Rattle.xet_service.proofs.reader.parts.is_multipart.Goals as goal
 
 pub returns : goal.returns
 returns c =

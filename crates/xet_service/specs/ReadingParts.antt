@@ -1,0 +1,51 @@
+-- What the code that cuts a body into parts owes.
+use Rattle.std.specs.Prelude.{ℕ, Bool, true, false, ◌&&◌, ◌==◌, List, [], ◌∷◌, length, Result, Ok, Err}
+use Rattle.xet_types.specs.declared.record.XorbRangeDescriptor.{XorbRangeDescriptor}
+use Rattle.xet_types.specs.declared.error.Refusal.{Refusal}
+use Rattle.xet_types.specs.declared.error.Refusal.TheVariants.{FormatError, Other}
+use Rattle.xet_types.specs.declared.error.FormatFault.TheVariants as faults
+use Rattle.xet_store.specs.StoreModel.{Chunks}
+use Rattle.xet_wire.specs.Multipart.{Part}
+use Rattle.xet_service.specs.Reading.{bytes_in, IsReadInParts, IsCutInto, HasParts, AreAllWhole}
+
+-- the part is of the range's bytes
+abbrev pub is_of : XorbRangeDescriptor → Part → Bool
+is_of r p = (p.range.start == r.bytes.start) && (p.range.end == r.bytes.end)
+
+-- the parts are of the ranges' bytes, in order
+abbrev pub are_of : List XorbRangeDescriptor → List Part → Bool
+are_of [] [] = true
+are_of [] (p ∷ ps) = false
+are_of (r ∷ rs) [] = false
+are_of (r ∷ rs) (p ∷ ps) = is_of r p && are_of rs ps
+
+-- there is a part for each range, and it is as long as the range
+abbrev pub are_sized : List XorbRangeDescriptor → List (List ℕ) → Bool
+are_sized [] [] = true
+are_sized [] (p ∷ ps) = false
+are_sized (r ∷ rs) [] = false
+are_sized (r ∷ rs) (p ∷ ps) = (bytes_in r.bytes == length p) && are_sized rs ps
+
+-- a body in parts, whose parts are those of these ranges
+abbrev pub CutsApart : List XorbRangeDescriptor → List ℕ → List ℕ → Result (List (List ℕ)) Refusal → Type 0
+CutsApart ranges content_type body (Ok parts) = IsReadInParts ranges content_type body parts
+CutsApart ranges content_type body (Err Other) = (parts : List (List ℕ)) → IsReadInParts ranges content_type body parts → ⊥
+CutsApart ranges content_type body (Err why) = ⊥
+
+-- a body as its content type says
+abbrev pub CutsInto : List XorbRangeDescriptor → List ℕ → List ℕ → Result (List (List ℕ)) Refusal → Type 0
+CutsInto ranges content_type body (Ok parts) = IsCutInto ranges content_type body parts
+CutsInto ranges content_type body (Err Other) = (parts : List (List ℕ)) → IsCutInto ranges content_type body parts → ⊥
+CutsInto ranges content_type body (Err why) = ⊥
+
+-- parts that are as long as their ranges
+abbrev pub CutsParts : List XorbRangeDescriptor → List ℕ → List ℕ → Result (List (List ℕ)) Refusal → Type 0
+CutsParts ranges content_type body (Ok parts) = HasParts ranges content_type body parts
+CutsParts ranges content_type body (Err Other) = (parts : List (List ℕ)) → HasParts ranges content_type body parts → ⊥
+CutsParts ranges content_type body (Err why) = ⊥
+
+-- the chunks of each part
+abbrev pub ReadsParts : List (List ℕ) → Result (List Chunks) Refusal → Type 0
+ReadsParts parts (Ok got) = AreAllWhole parts got
+ReadsParts parts (Err (FormatError faults.Xorb)) = (got : List Chunks) → AreAllWhole parts got → ⊥
+ReadsParts parts (Err why) = ⊥
