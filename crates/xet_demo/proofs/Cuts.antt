@@ -49,14 +49,14 @@ three_parts : (a b : List ℕ) (parts : List (List ℕ)) → 0 < length parts �
 three_parts a b [] some = absurd (omega arith)
 three_parts a b (c ∷ parts) some = refl
 
-three_words : (command a b : List ℕ) (parts : List (List ℕ)) → 0 < length parts → words_from command (a ∷ b ∷ parts) ≡ None
-three_words command a b [] some = absurd (omega arith)
-three_words command a b (c ∷ parts) some = refl
+four_words : (command a b c : List ℕ) (parts : List (List ℕ)) → 0 < length parts → words_from command (a ∷ b ∷ c ∷ parts) ≡ None
+four_words command a b c [] some = absurd (omega arith)
+four_words command a b c (d ∷ parts) some = refl
 
 -- a range has one separator
 pub no_range : (word a b rest : List ℕ) → is_word word (codes "all") ≡ false → parts_of 45 word ≡ a ∷ b ∷ parts_of 45 rest → range_of word ≡ None
 no_range word a b rest other parts = rw (other, parts) (three_parts a b (parts_of 45 rest) (some_part 45 rest))
 
--- no command has three words
-pub no_command : (command words a b rest : List ℕ) → parts_of 32 words ≡ a ∷ b ∷ parts_of 32 rest → words_from command (parts_of 32 words) ≡ None
-no_command command words a b rest parts = rw parts (three_words command a b (parts_of 32 rest) (some_part 32 rest))
+-- no command has four words
+pub no_command : (command a b c words rest : List ℕ) → parts_of 32 words ≡ c ∷ parts_of 32 rest → words_from command (a ∷ b ∷ parts_of 32 words) ≡ None
+no_command command a b c words rest parts = rw parts (four_words command a b c (parts_of 32 rest) (some_part 32 rest))

@@ -3,9 +3,9 @@ use Rattle.std.specs.Prelude.{ℕ, ◌==◌, List, [], ◌∷◌, length, slice_
 use Rattle.std.specs.List.{list_all}
 use Rattle.std.specs.Char.{is_ascii}
 use Rattle.xet_service.specs.declared.step.PlanVersion.{PlanVersion}
-use Rattle.xet_service.specs.declared.step.PlanVersion.TheVariants.{V1}
+use Rattle.xet_service.specs.declared.step.PlanVersion.TheVariants.{V1, V2}
 use Rattle.xet_service.specs.declared.step.Act.{Act}
-use Rattle.xet_service.specs.declared.step.Act.TheVariants.{UploadXorb, UploadShard, Plan, Fetch, Abandon, HideFile, DeleteShard, DeleteXorb, SetExpiration, FileSize, FileData}
+use Rattle.xet_service.specs.declared.step.Act.TheVariants.{UploadXorb, UploadShard, Plan, Fetch, Abandon, HideFile, DeleteShard, DeleteXorb, SetExpiration, SetMaxRanges, SetDedupExpiration, DedupQuery, FileSize, FileData, RemoveDedup, ListXorbs, ListShards, ListFiles, CheckIntegrity, CheckReachable, CheckReadable, InsertRandomXorb}
 use Rattle.xet_demo.specs.declared.script.line.Line.{Line}
 use Rattle.xet_demo.specs.declared.script.line.Line.TheVariants.{Passed, Command, Bad}
 use Rattle.xet_demo.specs.Words.{◌>>=◌, parts_of, is_word, number_of, small_number_of, hash_of, octets_of, range_of}
@@ -23,7 +23,7 @@ shard_act content = do
   bytes ← octets_of content
   Some (UploadShard bytes)
 
--- `plan1 FILE RANGE`
+-- `plan1 FILE RANGE`, `plan2 FILE RANGE`
 abbrev pub plan_act : PlanVersion → List ℕ → List ℕ → Option Act
 plan_act version file bytes = do
   hash ← hash_of file
@@ -67,6 +67,32 @@ expire_act millis = do
   ms ← number_of millis
   Some (SetExpiration ms)
 
+-- `max N`
+abbrev pub max_act : List ℕ → Option Act
+max_act max = do
+  n ← number_of max
+  Some (SetMaxRanges n)
+
+-- `dedup-expire MS` or `dedup-expire never`
+abbrev pub dedup_expire_act : List ℕ → Option Act
+dedup_expire_act millis =
+    if is_word millis (codes "never") then Some (SetDedupExpiration None)
+    else do
+      ms ← number_of millis
+      Some (SetDedupExpiration (Some ms))
+
+-- `dedup HASH`
+abbrev pub dedup_act : List ℕ → Option Act
+dedup_act chunk = do
+  hash ← hash_of chunk
+  Some (DedupQuery hash)
+
+-- `drop-dedup HASH`
+abbrev pub drop_dedup_act : List ℕ → Option Act
+drop_dedup_act name = do
+  hash ← hash_of name
+  Some (RemoveDedup hash)
+
 -- `size FILE`
 abbrev pub size_act : List ℕ → Option Act
 size_act file = do
@@ -80,6 +106,22 @@ data_act file bytes = do
   range ← range_of bytes
   Some (FileData hash range)
 
+-- `random SEED COUNT SIZE`
+abbrev pub random_act : List ℕ → List ℕ → List ℕ → Option Act
+random_act seed count size = do
+  s ← number_of seed
+  n ← small_number_of count
+  bytes ← small_number_of size
+  Some (InsertRandomXorb s n bytes)
+
+-- a command on deduplication
+abbrev pub dedup_word : List ℕ → List ℕ → Option Act
+dedup_word command a =
+    if is_word command (codes "dedup-expire") then dedup_expire_act a
+    else if is_word command (codes "dedup") then dedup_act a
+    else if is_word command (codes "drop-dedup") then drop_dedup_act a
+    else None
+
 -- a command whose one word is a number or a hash
 abbrev pub short_word : List ℕ → List ℕ → Option Act
 short_word command a =
@@ -88,8 +130,9 @@ short_word command a =
     else if is_word command (codes "delete-shard") then delete_shard_act a
     else if is_word command (codes "delete-xorb") then delete_xorb_act a
     else if is_word command (codes "expire") then expire_act a
+    else if is_word command (codes "max") then max_act a
     else if is_word command (codes "size") then size_act a
-    else None
+    else dedup_word command a
 
 abbrev pub one_word : List ℕ → List ℕ → Option Act
 one_word command a = if is_word command (codes "shard") then shard_act a else short_word command a
@@ -98,14 +141,36 @@ abbrev pub two_words : List ℕ → List ℕ → List ℕ → Option Act
 two_words command a b =
     if is_word command (codes "xorb") then xorb_act a b
     else if is_word command (codes "plan1") then plan_act V1 a b
+    else if is_word command (codes "plan2") then plan_act V2 a b
     else if is_word command (codes "fetch") then fetch_act a b
     else if is_word command (codes "data") then data_act a b
     else None
 
+-- a check
+abbrev pub check_word : List ℕ → Option Act
+check_word command =
+    if is_word command (codes "integrity") then Some CheckIntegrity
+    else if is_word command (codes "reachable") then Some CheckReachable
+    else if is_word command (codes "readable") then Some CheckReadable
+    else None
+
+-- a command without words
+abbrev pub no_words : List ℕ → Option Act
+no_words command =
+    if is_word command (codes "xorbs") then Some ListXorbs
+    else if is_word command (codes "shards") then Some ListShards
+    else if is_word command (codes "files") then Some ListFiles
+    else check_word command
+
+abbrev pub three_words : List ℕ → List ℕ → List ℕ → List ℕ → Option Act
+three_words command a b c = if is_word command (codes "random") then random_act a b c else None
+
 -- a command by the number of its words
 abbrev pub words_from : List ℕ → List (List ℕ) → Option Act
+words_from command [] = no_words command
 words_from command (a ∷ []) = one_word command a
 words_from command (a ∷ b ∷ []) = two_words command a b
+words_from command (a ∷ b ∷ c ∷ []) = three_words command a b c
 words_from command others = None
 
 -- a command and its words

@@ -9,21 +9,13 @@ use Rattle.xet_types.specs.declared.error.Refusal.TheVariants as refusals
 use Rattle.xet_types.specs.declared.record.XorbReconstructionTerm.{XorbReconstructionTerm}
 use Rattle.xet_types.specs.declared.record.XorbRangeDescriptor.{XorbRangeDescriptor}
 use Rattle.xet_service.specs.declared.step.PlanVersion.{PlanVersion}
-use Rattle.xet_service.specs.declared.step.PlanVersion.TheVariants.{V1}
+use Rattle.xet_service.specs.declared.step.PlanVersion.TheVariants.{V1, V2}
 use Rattle.xet_service.specs.declared.reply.PlannedLink.{PlannedLink}
 use Rattle.xet_service.specs.declared.reply.CacheNote.{CacheNote}
 use Rattle.xet_service.specs.declared.reply.CacheRefusal.{CacheRefusal}
 use Rattle.xet_service.specs.declared.reply.CacheRefusal.TheVariants as caches
 use Rattle.xet_service.specs.declared.reply.Reply.{Reply}
-use Rattle.xet_service.specs.declared.reply.Reply.TheVariants.{Uploaded, ShardTaken, NoPlan, Done, Planned, Fetched, Finished, Size, Data, Refused}
-use Rattle.xet_demo.specs.declared.print.part.Part.{Part}
-use Rattle.xet_demo.specs.declared.print.part.Part.TheVariants.{Text, Number, Hash}
-
--- a part of a line
-abbrev pub part_text : Part → List ℕ
-part_text (Text text) = text.now
-part_text (Number n) = decimal n
-part_text (Hash hash) = encode_lower hash
+use Rattle.xet_service.specs.declared.reply.Reply.TheVariants.{Uploaded, ShardTaken, NoPlan, Done, Planned, Fetched, Finished, NoShard, ShardBytes, Random, Size, Data, Refused, Hashes, Files}
 
 -- one text after another
 abbrev pub joined : List (List ℕ) → List ℕ
@@ -39,6 +31,7 @@ truth_word false = codes "false"
 
 abbrev pub version_word : PlanVersion → List ℕ
 version_word V1 = codes "v1"
+version_word V2 = codes "v2"
 
 unfoldable pub uploaded_line : ℕ → List ℕ
 uploaded_line n = joined (codes "xorb " ∷ decimal n ∷ codes "\n" ∷ [])
@@ -54,6 +47,31 @@ done_line = codes "done\n"
 
 unfoldable pub size_line : ℕ → List ℕ
 size_line n = joined (codes "size " ∷ decimal n ∷ codes "\n" ∷ [])
+
+unfoldable pub hashes_start : ℕ → List ℕ
+hashes_start n = joined (codes "hashes " ∷ decimal n ∷ codes "\n" ∷ [])
+
+unfoldable pub hash_line : List ℕ → List ℕ
+hash_line hash = joined (encode_lower hash ∷ codes "\n" ∷ [])
+
+abbrev pub hashes_text : List (List ℕ) → List ℕ
+hashes_text hashes = flat_map hash_line hashes
+
+unfoldable pub files_start : ℕ → List ℕ
+files_start n = joined (codes "files " ∷ decimal n ∷ codes "\n" ∷ [])
+
+-- a file, and the shard that lists it
+unfoldable pub entry_line : List ℕ × List ℕ → List ℕ
+entry_line entry = joined (encode_lower entry.0 ∷ codes " " ∷ encode_lower entry.1 ∷ codes "\n" ∷ [])
+
+abbrev pub entries_text : List (List ℕ × List ℕ) → List ℕ
+entries_text entries = flat_map entry_line entries
+
+unfoldable pub random_line : List ℕ → List ℕ
+random_line hash = joined (codes "random " ∷ encode_lower hash ∷ codes "\n" ∷ [])
+
+unfoldable pub dedup_start : List ℕ
+dedup_start = codes "dedup "
 
 unfoldable pub data_start : List ℕ
 data_start = codes "data "
@@ -155,6 +173,11 @@ reply_text Done = done_line
 reply_text (Planned read version offset terms links) = plan_line read version offset (length terms) (length links) ++ terms_text terms ++ links_text 0 links
 reply_text (Fetched read link left wire cache) = fetched_start read link left ++ note_text wire cache ++ codes "\n"
 reply_text (Finished read bytes wire cache) = finished_start read ++ note_text wire cache ++ codes " " ++ octets_text bytes ++ codes "\n"
+reply_text NoShard = none_line
+reply_text (ShardBytes bytes) = dedup_start ++ octets_text bytes ++ codes "\n"
+reply_text (Hashes hashes) = hashes_start (length hashes) ++ hashes_text hashes
+reply_text (Files files) = files_start (length files) ++ entries_text files
+reply_text (Random hash) = random_line hash
 reply_text (Size n) = size_line n
 reply_text (Data bytes) = data_start ++ octets_text bytes ++ codes "\n"
 reply_text (Refused why) = refused_line why

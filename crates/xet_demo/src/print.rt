@@ -1,19 +1,19 @@
 //! Replies as text.
-ghost use Rattle.std.specs.Prelude.{◌≡◌, codes};
+ghost use Rattle.std.specs.Prelude.{◌≡◌, ◌++◌, length, codes};
 ghost use Rattle.std.specs.List.{concat, flat_map};
 ghost use Rattle.hex.specs.Hex.{encode_lower};
 ghost use Rattle.xet_demo.specs.Pages.{Prints, output};
-ghost use Rattle.xet_demo.specs.Printed.{part_text, octets_text, truth_word, version_word, uploaded_line, shard_line, none_line, done_line, size_line, data_start, plan_line, term_line, terms_text, range_text, ranges_text, link_start, link_line, links_text, cache_word, note_text, fetched_start, finished_start, refusal_word, refusal_detail, refused_line, reply_text, replies_text};
+ghost use Rattle.xet_demo.specs.Printed.{octets_text, truth_word, version_word, uploaded_line, shard_line, none_line, done_line, size_line, dedup_start, data_start, plan_line, term_line, terms_text, range_text, ranges_text, link_start, link_line, links_text, cache_word, note_text, fetched_start, finished_start, refusal_word, refusal_detail, refused_line, reply_text, replies_text, hashes_start, hash_line, hashes_text, files_start, entry_line, entries_text, random_line};
 
 pub mod digits;
 pub mod page;
-pub mod part;
 
 use bytes::Bytes;
 use page::Page;
-use part::{Part, print_parts};
 use xet_service::{CacheNote, CacheRefusal, Pieces, PlanVersion, PlannedLink, Reply};
-use xet_types::{FormatFault, Octets, Refusal, Sink, XorbRangeDescriptor, XorbReconstructionTerm};
+use xet_types::{
+    FormatFault, MerkleHash, Octets, Refusal, Sink, XorbRangeDescriptor, XorbReconstructionTerm,
+};
 
 fn truth_word(truth: bool) -> &'static [u8]
     ensures { result.now ≡ truth_word truth }
@@ -26,6 +26,7 @@ fn version_word(version: PlanVersion) -> &'static [u8]
 {
     match version {
         PlanVersion::V1 => b"v1",
+        PlanVersion::V2 => b"v2",
     }
 }
 
@@ -66,14 +67,14 @@ fn refusal_word(refusal: &Refusal) -> &'static [u8]
     }
 }
 
-/// What stands behind the first word of a refusal.
-fn refusal_detail(refusal: &Refusal) -> Part<'static>
-    ensures { part_text result ≡ refusal_detail refusal.now }
+/// Prints what stands behind the first word of a refusal.
+fn print_refusal_detail<K: Sink>(page: &mut Page, sink: &mut K, refusal: &Refusal)
+    ensures { Prints (output (K.taken sink.old) (K.faults sink.old) page.old) (output (K.taken sink.new) (K.faults sink.new) page.new) (refusal_detail refusal.now) }
 {
     match refusal {
-        Refusal::FileNotFound(hash) | Refusal::XORBNotFound(hash) => Part::Hash(*hash),
-        Refusal::HttpStatus(status) => Part::Number(u64::from(*status)),
-        _ => Part::Text(b""),
+        Refusal::FileNotFound(hash) | Refusal::XORBNotFound(hash) => page.put_hash(sink, hash),
+        Refusal::HttpStatus(status) => page.put_number(sink, u64::from(*status)),
+        _ => {}
     }
 }
 
@@ -81,42 +82,33 @@ fn refusal_detail(refusal: &Refusal) -> Part<'static>
 fn print_uploaded<K: Sink>(page: &mut Page, sink: &mut K, length: u64)
     ensures { Prints (output (K.taken sink.old) (K.faults sink.old) page.old) (output (K.taken sink.new) (K.faults sink.new) page.new) (uploaded_line length) }
 {
-    let parts = [
-        Part::Text(b"xorb "),
-        Part::Number(length),
-        Part::Text(b"\n"),
-    ];
-    print_parts(page, sink, &parts);
+    page.put(sink, b"xorb ");
+    page.put_number(sink, length);
+    page.put(sink, b"\n");
 }
 
 #[tactic(auto, unfolding(crate::specs::Printed::term_line))]
 fn print_term<K: Sink>(page: &mut Page, sink: &mut K, term: &XorbReconstructionTerm)
     ensures { Prints (output (K.taken sink.old) (K.faults sink.old) page.old) (output (K.taken sink.new) (K.faults sink.new) page.new) (term_line term.now) }
 {
-    let parts = [
-        Part::Text(b"term "),
-        Part::Hash(term.hash),
-        Part::Text(b" "),
-        Part::Number(u64::from(term.range.start)),
-        Part::Text(b"-"),
-        Part::Number(u64::from(term.range.end)),
-        Part::Text(b" "),
-        Part::Number(u64::from(term.unpacked_length)),
-        Part::Text(b"\n"),
-    ];
-    print_parts(page, sink, &parts);
+    page.put(sink, b"term ");
+    page.put_hash(sink, &term.hash);
+    page.put(sink, b" ");
+    page.put_number(sink, u64::from(term.range.start));
+    page.put(sink, b"-");
+    page.put_number(sink, u64::from(term.range.end));
+    page.put(sink, b" ");
+    page.put_number(sink, u64::from(term.unpacked_length));
+    page.put(sink, b"\n");
 }
 
 #[tactic(auto, unfolding(crate::specs::Printed::shard_line))]
 fn print_shard<K: Sink>(page: &mut Page, sink: &mut K, taken: bool)
     ensures { Prints (output (K.taken sink.old) (K.faults sink.old) page.old) (output (K.taken sink.new) (K.faults sink.new) page.new) (shard_line taken) }
 {
-    let parts = [
-        Part::Text(b"shard "),
-        Part::Text(truth_word(taken)),
-        Part::Text(b"\n"),
-    ];
-    print_parts(page, sink, &parts);
+    page.put(sink, b"shard ");
+    page.put(sink, truth_word(taken));
+    page.put(sink, b"\n");
 }
 
 #[tactic(auto, unfolding(crate::specs::Printed::none_line))]
@@ -137,8 +129,93 @@ fn print_done<K: Sink>(page: &mut Page, sink: &mut K)
 fn print_size<K: Sink>(page: &mut Page, sink: &mut K, size: u64)
     ensures { Prints (output (K.taken sink.old) (K.faults sink.old) page.old) (output (K.taken sink.new) (K.faults sink.new) page.new) (size_line size) }
 {
-    let parts = [Part::Text(b"size "), Part::Number(size), Part::Text(b"\n")];
-    print_parts(page, sink, &parts);
+    page.put(sink, b"size ");
+    page.put_number(sink, size);
+    page.put(sink, b"\n");
+}
+
+#[tactic(auto, unfolding(crate::specs::Printed::hashes_start))]
+fn print_hashes_start<K: Sink>(page: &mut Page, sink: &mut K, count: usize)
+    ensures { Prints (output (K.taken sink.old) (K.faults sink.old) page.old) (output (K.taken sink.new) (K.faults sink.new) page.new) (hashes_start count) }
+{
+    page.put(sink, b"hashes ");
+    page.put_number(sink, count as u64);
+    page.put(sink, b"\n");
+}
+
+#[tactic(auto, unfolding(crate::specs::Printed::hash_line))]
+fn print_hash<K: Sink>(page: &mut Page, sink: &mut K, hash: &MerkleHash)
+    ensures { Prints (output (K.taken sink.old) (K.faults sink.old) page.old) (output (K.taken sink.new) (K.faults sink.new) page.new) (hash_line hash.now) }
+{
+    page.put_hash(sink, hash);
+    page.put(sink, b"\n");
+}
+
+fn print_hashes<K: Sink>(page: &mut Page, sink: &mut K, hashes: &[MerkleHash])
+    ensures { Prints (output (K.taken sink.old) (K.faults sink.old) page.old) (output (K.taken sink.new) (K.faults sink.new) page.new) (hashes_text hashes.now) }
+{
+    for hash in hashes {
+        print_hash(page, sink, hash);
+    }
+}
+
+/// Prints how many hashes there are, and each.
+fn print_hash_list<K: Sink>(page: &mut Page, sink: &mut K, hashes: &[MerkleHash])
+    ensures { Prints (output (K.taken sink.old) (K.faults sink.old) page.old) (output (K.taken sink.new) (K.faults sink.new) page.new) (hashes_start (length hashes.now) ++ hashes_text hashes.now) }
+{
+    print_hashes_start(page, sink, hashes.len());
+    print_hashes(page, sink, hashes);
+}
+
+#[tactic(auto, unfolding(crate::specs::Printed::files_start))]
+fn print_files_start<K: Sink>(page: &mut Page, sink: &mut K, count: usize)
+    ensures { Prints (output (K.taken sink.old) (K.faults sink.old) page.old) (output (K.taken sink.new) (K.faults sink.new) page.new) (files_start count) }
+{
+    page.put(sink, b"files ");
+    page.put_number(sink, count as u64);
+    page.put(sink, b"\n");
+}
+
+#[tactic(auto, unfolding(crate::specs::Printed::entry_line))]
+fn print_entry<K: Sink>(page: &mut Page, sink: &mut K, entry: &(MerkleHash, MerkleHash))
+    ensures { Prints (output (K.taken sink.old) (K.faults sink.old) page.old) (output (K.taken sink.new) (K.faults sink.new) page.new) (entry_line entry.now) }
+{
+    page.put_hash(sink, &entry.0);
+    page.put(sink, b" ");
+    page.put_hash(sink, &entry.1);
+    page.put(sink, b"\n");
+}
+
+fn print_entries<K: Sink>(page: &mut Page, sink: &mut K, entries: &[(MerkleHash, MerkleHash)])
+    ensures { Prints (output (K.taken sink.old) (K.faults sink.old) page.old) (output (K.taken sink.new) (K.faults sink.new) page.new) (entries_text entries.now) }
+{
+    for entry in entries {
+        print_entry(page, sink, entry);
+    }
+}
+
+/// Prints how many files there are, and each with the shard that lists it.
+fn print_file_list<K: Sink>(page: &mut Page, sink: &mut K, files: &[(MerkleHash, MerkleHash)])
+    ensures { Prints (output (K.taken sink.old) (K.faults sink.old) page.old) (output (K.taken sink.new) (K.faults sink.new) page.new) (files_start (length files.now) ++ entries_text files.now) }
+{
+    print_files_start(page, sink, files.len());
+    print_entries(page, sink, files);
+}
+
+#[tactic(auto, unfolding(crate::specs::Printed::random_line))]
+fn print_random<K: Sink>(page: &mut Page, sink: &mut K, hash: &MerkleHash)
+    ensures { Prints (output (K.taken sink.old) (K.faults sink.old) page.old) (output (K.taken sink.new) (K.faults sink.new) page.new) (random_line hash.now) }
+{
+    page.put(sink, b"random ");
+    page.put_hash(sink, hash);
+    page.put(sink, b"\n");
+}
+
+#[tactic(auto, unfolding(crate::specs::Printed::dedup_start))]
+fn print_dedup_start<K: Sink>(page: &mut Page, sink: &mut K)
+    ensures { Prints (output (K.taken sink.old) (K.faults sink.old) page.old) (output (K.taken sink.new) (K.faults sink.new) page.new) dedup_start }
+{
+    page.put(sink, b"dedup ");
 }
 
 #[tactic(auto, unfolding(crate::specs::Printed::data_start))]
@@ -160,17 +237,14 @@ fn print_terms<K: Sink>(page: &mut Page, sink: &mut K, terms: &[XorbReconstructi
 fn print_range<K: Sink>(page: &mut Page, sink: &mut K, before: &[u8], range: &XorbRangeDescriptor)
     ensures { Prints (output (K.taken sink.old) (K.faults sink.old) page.old) (output (K.taken sink.new) (K.faults sink.new) page.new) (range_text before.now range.now) }
 {
-    let parts = [
-        Part::Text(before),
-        Part::Number(u64::from(range.chunks.start)),
-        Part::Text(b"-"),
-        Part::Number(u64::from(range.chunks.end)),
-        Part::Text(b"@"),
-        Part::Number(range.bytes.start),
-        Part::Text(b"-"),
-        Part::Number(range.bytes.end),
-    ];
-    print_parts(page, sink, &parts);
+    page.put(sink, before);
+    page.put_number(sink, u64::from(range.chunks.start));
+    page.put(sink, b"-");
+    page.put_number(sink, u64::from(range.chunks.end));
+    page.put(sink, b"@");
+    page.put_number(sink, range.bytes.start);
+    page.put(sink, b"-");
+    page.put_number(sink, range.bytes.end);
 }
 
 fn print_next_ranges<K: Sink>(page: &mut Page, sink: &mut K, ranges: &[XorbRangeDescriptor])
@@ -197,14 +271,11 @@ fn print_ranges<K: Sink>(page: &mut Page, sink: &mut K, ranges: &[XorbRangeDescr
 fn print_link_start<K: Sink>(page: &mut Page, sink: &mut K, number: usize, url: &Octets)
     ensures { Prints (output (K.taken sink.old) (K.faults sink.old) page.old) (output (K.taken sink.new) (K.faults sink.new) page.new) (link_start number url.now) }
 {
-    let parts = [
-        Part::Text(b"link "),
-        Part::Number(number as u64),
-        Part::Text(b" "),
-        Part::Text(url.as_slice()),
-        Part::Text(b" "),
-    ];
-    print_parts(page, sink, &parts);
+    page.put(sink, b"link ");
+    page.put_number(sink, number as u64);
+    page.put(sink, b" ");
+    page.put(sink, url.as_slice());
+    page.put(sink, b" ");
 }
 
 fn print_link<K: Sink>(page: &mut Page, sink: &mut K, number: usize, link: &PlannedLink)
@@ -235,65 +306,53 @@ fn print_plan_line<K: Sink>(
 )
     ensures { Prints (output (K.taken sink.old) (K.faults sink.old) page.old) (output (K.taken sink.new) (K.faults sink.new) page.new) (plan_line read version offset terms links) }
 {
-    let parts = [
-        Part::Text(b"plan "),
-        Part::Number(read),
-        Part::Text(b" "),
-        Part::Text(version_word(version)),
-        Part::Text(b" offset "),
-        Part::Number(offset),
-        Part::Text(b" terms "),
-        Part::Number(terms as u64),
-        Part::Text(b" links "),
-        Part::Number(links as u64),
-        Part::Text(b"\n"),
-    ];
-    print_parts(page, sink, &parts);
+    page.put(sink, b"plan ");
+    page.put_number(sink, read);
+    page.put(sink, b" ");
+    page.put(sink, version_word(version));
+    page.put(sink, b" offset ");
+    page.put_number(sink, offset);
+    page.put(sink, b" terms ");
+    page.put_number(sink, terms as u64);
+    page.put(sink, b" links ");
+    page.put_number(sink, links as u64);
+    page.put(sink, b"\n");
 }
 
 #[tactic(auto, unfolding(crate::specs::Printed::note_text))]
 fn print_note<K: Sink>(page: &mut Page, sink: &mut K, wire: u64, note: &CacheNote)
     ensures { Prints (output (K.taken sink.old) (K.faults sink.old) page.old) (output (K.taken sink.new) (K.faults sink.new) page.new) (note_text wire note.now) }
 {
-    let parts = [
-        Part::Text(b"wire "),
-        Part::Number(wire),
-        Part::Text(b" hits "),
-        Part::Number(u64::from(note.hits)),
-        Part::Text(b" stored "),
-        Part::Number(u64::from(note.stored)),
-        Part::Text(b" refused "),
-        Part::Text(cache_word(&note.refused)),
-    ];
-    print_parts(page, sink, &parts);
+    page.put(sink, b"wire ");
+    page.put_number(sink, wire);
+    page.put(sink, b" hits ");
+    page.put_number(sink, u64::from(note.hits));
+    page.put(sink, b" stored ");
+    page.put_number(sink, u64::from(note.stored));
+    page.put(sink, b" refused ");
+    page.put(sink, cache_word(&note.refused));
 }
 
 #[tactic(auto, unfolding(crate::specs::Printed::fetched_start))]
 fn print_fetched_start<K: Sink>(page: &mut Page, sink: &mut K, read: u64, link: u32, left: u32)
     ensures { Prints (output (K.taken sink.old) (K.faults sink.old) page.old) (output (K.taken sink.new) (K.faults sink.new) page.new) (fetched_start read link left) }
 {
-    let parts = [
-        Part::Text(b"fetched "),
-        Part::Number(read),
-        Part::Text(b" "),
-        Part::Number(u64::from(link)),
-        Part::Text(b" left "),
-        Part::Number(u64::from(left)),
-        Part::Text(b" "),
-    ];
-    print_parts(page, sink, &parts);
+    page.put(sink, b"fetched ");
+    page.put_number(sink, read);
+    page.put(sink, b" ");
+    page.put_number(sink, u64::from(link));
+    page.put(sink, b" left ");
+    page.put_number(sink, u64::from(left));
+    page.put(sink, b" ");
 }
 
 #[tactic(auto, unfolding(crate::specs::Printed::finished_start))]
 fn print_finished_start<K: Sink>(page: &mut Page, sink: &mut K, read: u64)
     ensures { Prints (output (K.taken sink.old) (K.faults sink.old) page.old) (output (K.taken sink.new) (K.faults sink.new) page.new) (finished_start read) }
 {
-    let parts = [
-        Part::Text(b"finished "),
-        Part::Number(read),
-        Part::Text(b" "),
-    ];
-    print_parts(page, sink, &parts);
+    page.put(sink, b"finished ");
+    page.put_number(sink, read);
+    page.put(sink, b" ");
 }
 
 fn print_octets<K: Sink>(page: &mut Page, sink: &mut K, bytes: &Octets)
@@ -329,13 +388,10 @@ fn print_pieces<K: Sink>(page: &mut Page, sink: &mut K, bytes: &Pieces)
 fn print_refused<K: Sink>(page: &mut Page, sink: &mut K, refusal: &Refusal)
     ensures { Prints (output (K.taken sink.old) (K.faults sink.old) page.old) (output (K.taken sink.new) (K.faults sink.new) page.new) (refused_line refusal.now) }
 {
-    let parts = [
-        Part::Text(b"refused "),
-        Part::Text(refusal_word(refusal)),
-        refusal_detail(refusal),
-        Part::Text(b"\n"),
-    ];
-    print_parts(page, sink, &parts);
+    page.put(sink, b"refused ");
+    page.put(sink, refusal_word(refusal));
+    print_refusal_detail(page, sink, refusal);
+    page.put(sink, b"\n");
 }
 
 /// Prints the lines of a reply.
@@ -389,6 +445,15 @@ pub fn print_reply<K: Sink>(page: &mut Page, sink: &mut K, reply: &Reply)
             print_pieces(page, sink, bytes);
             page.put(sink, b"\n");
         }
+        Reply::NoShard => print_none(page, sink),
+        Reply::ShardBytes(bytes) => {
+            print_dedup_start(page, sink);
+            print_octets(page, sink, bytes);
+            page.put(sink, b"\n");
+        }
+        Reply::Hashes(hashes) => print_hash_list(page, sink, hashes.as_slice()),
+        Reply::Files(files) => print_file_list(page, sink, files.as_slice()),
+        Reply::Random(hash) => print_random(page, sink, hash),
         Reply::Size(size) => print_size(page, sink, *size),
         Reply::Data(bytes) => {
             print_data_start(page, sink);

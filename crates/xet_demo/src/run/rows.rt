@@ -7,10 +7,15 @@ use std::test::Fail;
 use xet_types::{MemorySink, MemorySource};
 
 mod between;
+mod deduplicated;
 mod failing;
 mod fetched;
+mod generated;
+mod grouped;
+mod listed;
 mod plainly;
 mod planned;
+mod verified;
 
 /// A row's name, its script and the lines that are printed, each in pieces.
 type Row = (
@@ -20,7 +25,8 @@ type Row = (
 );
 
 /// What a name stands for: the file's hash, the beginning of a shard that lists one file, what is said of a cache that isn't
-/// there, the name of the shard that lists the file as the chunk `abc`, and the hashes of xorbs.
+/// there, the name of the shard that lists the file as the chunk `abc`, the hashes of xorbs, the chunk `abc`, the listing of a xorb
+/// of it alone, and the name of the shard that lists that file and that xorb.
 fn meaning(name: &str) -> &'static str {
     match name {
         "F" => "aaaaaaaaaaaaaaaaaaaaaaaaaaaaaaaaaaaaaaaaaaaaaaaaaaaaaaaaaaaaaaaa",
@@ -35,6 +41,10 @@ fn meaning(name: &str) -> &'static str {
         "two" => "e197a5824844fdd9cee26de537c4efe027f26af28d2222d15190b244f96a37f0",
         "listing" => "a905311b7c087392704783d93d717545e96ba56d29b179bf166903b7f08d8671",
         "large" => "78a7fd1d263f80045e51870c02b5919b6d5a5fc5562d4ccdc00a5407670d0bbc",
+        "chunk" => "ba7816bf8f01cfea414140de5dae2223b00361a396177a9cb410ff61f20015ad",
+        "chunks" =>
+            "0300000001000000ba7816bf8f01cfea414140de5dae2223b00361a396177a9cb410ff61f20015ad00000000030000000500000006000000",
+        "named" => "e3108abd6839160b9ed9faf7960b51f8bf3ef22ab2b5f8d7ae12ae7a1fd18fa8",
         _ => "?",
     }
 }
@@ -44,6 +54,13 @@ const ABC: &str = "0 xorb [abc] 0003000000030000616263\n";
 
 /// Lists the file as that chunk.
 const LISTS_ABC: &str = "[shard][F]01000000[abc]0000000000000000010000000300000000000000\n";
+
+/// A xorb of four chunks of 100 bytes.
+const FOUR: &str =
+    "0 xorb [four] 0064000000640000[61 100]0064000000640000[62 100]0064000000640000[63 100]0064000000640000[64 100]\n";
+
+/// A xorb of two chunks of 150 bytes. Its hash is below that of the four chunks.
+const TWO: &str = "0 xorb [two] 0096000000960000[65 150]0096000000960000[66 150]\n";
 
 /// A xorb of the chunks `a`, `x`, `bc`, `yy` and `def`.
 const FIVE: &str =

@@ -1,9 +1,9 @@
 //! What a line of a script means.
-ghost use Rattle.std.specs.Prelude.{◌≡◌, IfOk};
+ghost use Rattle.std.specs.Prelude.{◌≡◌, ◌∷◌, IfOk};
 ghost use Rattle.std.specs.List.{list_all};
 ghost use Rattle.std.specs.Char.{is_ascii};
 ghost use Rattle.xet_demo.specs.Words.{parts_of};
-ghost use Rattle.xet_demo.specs.Lines.{act_of, short_word, one_word, two_words, words_from, words_line, xorb_act, shard_act, plan_act, fetch_act, abandon_act, hide_act, delete_shard_act, delete_xorb_act, expire_act, size_act, data_act, ascii_line, line_of};
+ghost use Rattle.xet_demo.specs.Lines.{act_of, dedup_word, short_word, one_word, two_words, words_from, words_line, xorb_act, shard_act, plan_act, fetch_act, abandon_act, hide_act, delete_shard_act, delete_xorb_act, expire_act, max_act, dedup_expire_act, dedup_act, size_act, data_act, ascii_line, line_of, check_word, no_words, drop_dedup_act, three_words, random_act};
 
 use super::digits::hash;
 use super::word::{cut, number, octets, range, small_number};
@@ -97,6 +97,39 @@ fn expire(millis: &[u8]) -> Option<Act>
     Some(Act::SetExpiration { millis })
 }
 
+fn max(max: &[u8]) -> Option<Act>
+    ensures { result ≡ max_act max.now }
+{
+    let max = number(max)?;
+    Some(Act::SetMaxRanges { max })
+}
+
+fn dedup_expire(millis: &[u8]) -> Option<Act>
+    ensures { result ≡ dedup_expire_act millis.now }
+{
+    if millis == b"never".as_slice() {
+        return Some(Act::SetDedupExpiration { millis: None });
+    }
+    let millis = number(millis)?;
+    Some(Act::SetDedupExpiration {
+        millis: Some(millis),
+    })
+}
+
+fn dedup(chunk: &[u8]) -> Option<Act>
+    ensures { result ≡ dedup_act chunk.now }
+{
+    let chunk = hash(chunk)?;
+    Some(Act::DedupQuery { chunk })
+}
+
+fn drop_dedup(name: &[u8]) -> Option<Act>
+    ensures { result ≡ drop_dedup_act name.now }
+{
+    let shard = hash(name)?;
+    Some(Act::RemoveDedup { shard })
+}
+
 fn size(file: &[u8]) -> Option<Act>
     ensures { result ≡ size_act file.now }
 {
@@ -110,6 +143,64 @@ fn data(file: &[u8], bytes: &[u8]) -> Option<Act>
     let file = hash(file)?;
     let range = range(bytes)?;
     Some(Act::FileData { file, range })
+}
+
+fn random(seed: &[u8], count: &[u8], size: &[u8]) -> Option<Act>
+    ensures { result ≡ random_act seed.now count.now size.now }
+{
+    let seed = number(seed)?;
+    let num_chunks = small_number(count)?;
+    let chunk_size = small_number(size)?;
+    Some(Act::InsertRandomXorb {
+        seed,
+        num_chunks,
+        chunk_size,
+    })
+}
+
+/// The act of a command on deduplication.
+fn dedup_word(command: &[u8], word: &[u8]) -> Option<Act>
+    ensures { result ≡ dedup_word command.now word.now }
+{
+    if command == b"dedup-expire".as_slice() {
+        dedup_expire(word)
+    } else if command == b"dedup".as_slice() {
+        dedup(word)
+    } else if command == b"drop-dedup".as_slice() {
+        drop_dedup(word)
+    } else {
+        None
+    }
+}
+
+/// The act of a check.
+fn check_word(command: &[u8]) -> Option<Act>
+    ensures { result ≡ check_word command.now }
+{
+    if command == b"integrity".as_slice() {
+        Some(Act::CheckIntegrity)
+    } else if command == b"reachable".as_slice() {
+        Some(Act::CheckReachable)
+    } else if command == b"readable".as_slice() {
+        Some(Act::CheckReadable)
+    } else {
+        None
+    }
+}
+
+/// The act of a command without words.
+fn no_words(command: &[u8]) -> Option<Act>
+    ensures { result ≡ no_words command.now }
+{
+    if command == b"xorbs".as_slice() {
+        Some(Act::ListXorbs)
+    } else if command == b"shards".as_slice() {
+        Some(Act::ListShards)
+    } else if command == b"files".as_slice() {
+        Some(Act::ListFiles)
+    } else {
+        check_word(command)
+    }
 }
 
 /// The act of a command with one short word.
@@ -126,10 +217,12 @@ fn short_word(command: &[u8], word: &[u8]) -> Option<Act>
         delete_xorb(word)
     } else if command == b"expire".as_slice() {
         expire(word)
+    } else if command == b"max".as_slice() {
+        max(word)
     } else if command == b"size".as_slice() {
         size(word)
     } else {
-        None
+        dedup_word(command, word)
     }
 }
 
@@ -157,12 +250,36 @@ fn two_words(
         xorb(alloc, first, second)
     } else if command == b"plan1".as_slice() {
         Ok(plan(PlanVersion::V1, first, second))
+    } else if command == b"plan2".as_slice() {
+        Ok(plan(PlanVersion::V2, first, second))
     } else if command == b"fetch".as_slice() {
         Ok(fetch(first, second))
     } else if command == b"data".as_slice() {
         Ok(data(first, second))
     } else {
         Ok(None)
+    }
+}
+
+/// The act of a command with three words.
+fn three_words(command: &[u8], first: &[u8], second: &[u8], third: &[u8]) -> Option<Act>
+    ensures { result ≡ three_words command.now first.now second.now third.now }
+{
+    if command == b"random".as_slice() {
+        random(first, second, third)
+    } else {
+        None
+    }
+}
+
+/// The act of a command with two words, and behind them more, joined by single spaces.
+fn more_words(command: &[u8], first: &[u8], second: &[u8], words: &[u8]) -> Option<Act>
+    ensures { result ≡ words_from command.now (first.now ∷ second.now ∷ parts_of 32 words.now) }
+{
+    let (third, rest) = cut(words, b' ');
+    match rest {
+        None => three_words(command, first, second, third),
+        Some(_) => None,
     }
 }
 
@@ -177,7 +294,7 @@ fn act_with(alloc: Global, command: &[u8], words: &[u8]) -> Result<Option<Act>, 
     let (second, rest) = cut(rest, b' ');
     match rest {
         None => two_words(alloc, command, first, second),
-        Some(_) => Ok(None),
+        Some(rest) => Ok(more_words(command, first, second, rest)),
     }
 }
 
@@ -187,7 +304,7 @@ fn act(alloc: Global, text: &[u8]) -> Result<Option<Act>, OutOfMemory>
     let (command, rest) = cut(text, b' ');
     match rest {
         Some(words) => act_with(alloc, command, words),
-        None => Ok(None),
+        None => Ok(no_words(command)),
     }
 }
 

@@ -15,7 +15,7 @@ fn outcome(alloc: Global, script: &[u8]) -> Result<String, Fail> {
 
 #[test]
 fn lines(rt: HostRuntime) -> Result<(), Fail> {
-    let cases: [(&[u8], &str); 20] = [
+    let cases: [(&[u8], &str); 33] = [
         (b"", "0 steps"),
         (b"\n\r\n# a comment\r\n", "0 steps"),
         (b"6 fetch 0 0", "1 steps"),
@@ -36,6 +36,19 @@ fn lines(rt: HostRuntime) -> Result<(), Fail> {
         (b"0 shard \n", "line 1"),
         (b"0 shard abc\n", "line 1"),
         (b"0 shard ag\n", "line 1"),
+        (b"0 dedup-expire never\n0 dedup-expire 0", "2 steps"),
+        (b"0 dedup-expire Never", "line 1"),
+        (b"0 dedup never", "line 1"),
+        (b"0 max 0\n0 max 18446744073709551615", "2 steps"),
+        (b"0 max all", "line 1"),
+        (b"0 xorbs\n0 shards\n0 files\n", "3 steps"),
+        (b"0 integrity\n0 reachable\n0 readable\n", "3 steps"),
+        (b"0 xorbs \n", "line 1"),
+        (b"0 readable 1\n", "line 1"),
+        (b"0 drop-dedup aa\n", "line 1"),
+        (b"0 random 1 2 64", "1 steps"),
+        (b"0 random 1 4294967296 64", "line 1"),
+        (b"0 random 1 2 64 ", "line 1"),
     ];
     for (script, expected) in cases {
         let got = outcome(rt.alloc(), script)?;

@@ -20,16 +20,9 @@ const SMALL: &str = "0 xorb [small] 0064000000640000[74 100]\n";
 /// Lists the file as that chunk.
 const LISTS_SMALL: &str = "[shard][F]01000000[small]0000000000000000010000006400000000000000\n";
 
-/// A xorb of four chunks of 100 bytes.
-const FOUR: &str =
-    "0 xorb [four] 0064000000640000[61 100]0064000000640000[62 100]0064000000640000[63 100]0064000000640000[64 100]\n";
-
 /// Lists the file as its chunks, in two segments of two.
 const LISTS_HALVES: &str =
     "[shard][F]02000000[four]000000000000000002000000c8000000[four]000000000200000004000000c800000000000000\n";
-
-/// A xorb of two chunks of 150 bytes. Its hash is below that of the four chunks.
-const TWO: &str = "0 xorb [two] 0096000000960000[65 150]0096000000960000[66 150]\n";
 
 /// Lists the file as two of the four chunks, these two, and the other two of the four.
 const LISTS_BETWEEN: &str =
