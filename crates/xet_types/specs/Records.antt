@@ -45,6 +45,11 @@ pub record FirstPlan : Type 0 where
   pub terms : List XorbReconstructionTerm
   pub fetch_info : List (List ℕ × List FetchInfo)
 
+-- The terms of several files, and what to fetch of each xorb for all of them, both in order of hash.
+pub record BatchPlan : Type 0 where
+  pub files : List (List ℕ × List XorbReconstructionTerm)
+  pub fetch_info : List (List ℕ × List FetchInfo)
+
 -- the text of a link, and the runs that it brings
 pub record RangesFetch : Type 0 where
   pub url : List ℕ

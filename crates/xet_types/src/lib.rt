@@ -20,8 +20,8 @@ pub use outside::sink::{MemorySink, Sink, StdSink};
 pub use outside::source::{MemorySource, Source, StdSource};
 pub use range::{_C, _F, _H, ChunkRange, FileRange, HttpRange, Range, RangeParseError};
 pub use record::{
-    QueryReconstructionResponse, QueryReconstructionResponseV2, XorbMultiRangeFetch,
-    XorbRangeDescriptor, XorbReconstructionFetchInfo, XorbReconstructionTerm,
+    BatchQueryReconstructionResponse, QueryReconstructionResponse, QueryReconstructionResponseV2,
+    XorbMultiRangeFetch, XorbRangeDescriptor, XorbReconstructionFetchInfo, XorbReconstructionTerm,
 };
 
 #[cfg(test)]

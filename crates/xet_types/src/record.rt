@@ -173,6 +173,52 @@ impl QueryReconstructionResponse {
     }
 }
 
+/// Plans of version 1 of whole files, taken together.
+#[derive(Debug, Drop)]
+pub struct BatchQueryReconstructionResponse {
+    /// The parts of each file, in file order.
+    pub files: BTreeMap<HexMerkleHash, Vec<XorbReconstructionTerm>>,
+    /// What to fetch of each xorb: the entries of all plans, one plan behind the other.
+    pub fetch_info: BTreeMap<HexMerkleHash, Vec<XorbReconstructionFetchInfo>>,
+}
+
+impl Model for BatchQueryReconstructionResponse {
+    ghost use Rattle.std.specs.Prelude.{map};
+    ghost use Rattle.xet_types.specs.Records.{BatchPlan};
+    ghost use Rattle.xet_types.specs.RecordMaps.{listed};
+
+    ghost Value = { BatchPlan };
+
+    ghost view = { λ p. record { files = map listed p.files.entries; fetch_info = map listed p.fetch_info.entries } };
+}
+
+/// Other lists of the same terms.
+fn copy_of_files(
+    alloc: Global,
+    files: &BTreeMap<HexMerkleHash, Vec<XorbReconstructionTerm>>,
+) -> Result<BTreeMap<HexMerkleHash, Vec<XorbReconstructionTerm>>, OutOfMemory>
+    ensures { IfOk result (λ copy. map listed copy.entries ≡ map listed files.now.entries) }
+{
+    let mut copy = BTreeMap::new(alloc);
+    for (hash, terms) in files {
+        let copied = Vec::from_slice(alloc, terms)?;
+        copy.insert(*hash, copied)?;
+    }
+    Ok(copy)
+}
+
+impl BatchQueryReconstructionResponse {
+    /// Another of the same fields.
+    pub fn clone(&self, alloc: Global) -> Result<BatchQueryReconstructionResponse, OutOfMemory>
+        ensures { IfOk result (λ batch. batch ≡ self.now) }
+    {
+        Ok(BatchQueryReconstructionResponse {
+            files: copy_of_files(alloc, &self.files)?,
+            fetch_info: copy_of_fetch_info(alloc, &self.fetch_info)?,
+        })
+    }
+}
+
 /// What brings some runs of a xorb's chunks together, in a plan of version 2.
 #[derive(Debug, Drop)]
 pub struct XorbMultiRangeFetch {
