@@ -1,6 +1,6 @@
 -- Generated chunks: their lengths, and lists of them.
-use Rattle.std.proofs.Common.{◌≡◌, ℕ, zero, suc, ◌+◌, ◌-◌, ◌*◌, ◌/◌, ◌^◌, ◌<◌, ◌≤◌, append_assoc, get_or, drop, slice_range, All, List, [], ◌∷◌, ◌++◌, length, map, replicate, refl, sym, ap, subst, ◌∙◌, arith, length-append}
-use Rattle.std.proofs.lemmas.List.{length-take-le}
+use Rattle.std.proofs.Common.{◌≡◌, ℕ, zero, suc, ◌+◌, ◌-◌, ◌*◌, ◌/◌, ◌^◌, ◌<◌, ◌≤◌, append_assoc, get_or, take, drop, slice_range, All, List, [], ◌∷◌, ◌++◌, length, map, replicate, refl, sym, ap, subst, ◌∙◌, arith, length-append}
+use Rattle.std.proofs.lemmas.List.{length-take-le, take_rest, drop_at}
 use Rattle.std.specs.Global.{Vec}
 use Rattle.std.specs.List.{AllByRecursion, flat_map}
 use Rattle.std.proofs.lemmas.List.Elements.{All-take, All-drop, All-from_recursion, recursion_from_All}
@@ -42,6 +42,10 @@ unfolding words
 length-words zero s = refl
 length-words (suc n) s = ap suc (length-words n (next_u64 s).1)
 
+-- what a slice from a place to the end holds
+pub cut_behind : (all front chunk : List ℕ) (start : ℕ) → all ≡ front ++ chunk → length front ≡ start → take (length all - start) (drop start all) ≡ chunk
+cut_behind all front chunk start is there = take_rest all start ∙ ap (drop start) is ∙ drop_at front chunk start there
+
 -- ---- lists of chunks
 
 pub lengths_of_generated : (ss : List (ℕ × ℕ)) → lengths_of (generated_chunks ss) ≡ map (λ s. s.1) ss
@@ -71,12 +75,17 @@ seeded_lengths_of size (s ∷ ss) = ap (λ (ns : List ℕ). size ∷ ns) (seeded
 pub seeded_lengths : (size n : ℕ) (s : Stream) → map (λ s. s.1) (seeded_specs size (words n s)) ≡ replicate n size
 seeded_lengths size n s = seeded_lengths_of size (words n s) ∙ ap (λ k. replicate k size) (length-words n s)
 
+-- the lengths of the chunks of one seed
+pub seeded_sizes : (seed n size : ℕ) → lengths_of (seeded_chunks seed n size) ≡ replicate n size
+seeded_sizes seed n size =
+    let ss = seeded_specs size (chunk_seeds seed n) in
+    let chunks : generated_chunks ss ≡ seeded_chunks seed n size = seeded size (chunk_seeds seed n) in
+    ap lengths_of (sym chunks) ∙ lengths_of_generated ss ∙ seeded_lengths size n (stream_of_seed seed)
+
 -- the chunks of one seed are those of a xorb exactly where so many of one length are
 pub seeded_formed : (seed n size : ℕ) → (IsWellFormed (seeded_chunks seed n size) → AreLengths (replicate n size)) × (AreLengths (replicate n size) → IsWellFormed (seeded_chunks seed n size))
 seeded_formed seed n size =
-    let ss = seeded_specs size (chunk_seeds seed n) in
-    let chunks : generated_chunks ss ≡ seeded_chunks seed n size = seeded size (chunk_seeds seed n) in
-    let is : lengths_of (seeded_chunks seed n size) ≡ replicate n size = ap lengths_of (sym chunks) ∙ lengths_of_generated ss ∙ seeded_lengths size n (stream_of_seed seed) in
+    let is = seeded_sizes seed n size in
     (λ formed. subst AreLengths is formed.lengths, λ are. record { lengths = subst AreLengths (sym is) are })
 
 -- ---- the seeds of one seed
@@ -90,13 +99,35 @@ pub words-end : (n i : ℕ) (s : Stream) → n ≤ i → words (n - i) s ≡ []
 unfolding words
 words-end n i s h = let e : n - i ≡ 0 = omega (arith, h) in rw e refl
 
+-- the seeds that are left begin with the next one
+pub words_next : (n i w : ℕ) (s t : Stream) → i < n → (w, t) ≡ next_u64 s → words (n - i) s ≡ w ∷ words (n - (i + 1)) t
+words_next n i w s t h e =
+    let first : (next_u64 s).0 ≡ w = ap (λ p. p.0) (sym e) in
+    let rest : (next_u64 s).1 ≡ t = ap (λ p. p.1) (sym e) in
+    words-step n i s h ∙ ap (λ (x : ℕ). x ∷ words (n - (i + 1)) (next_u64 s).1) first ∙ ap (λ (u : Stream). w ∷ words (n - (i + 1)) u) rest
+
+-- the chunks of these seeds, all of one length
+abbrev pub generated_of : ℕ → List ℕ → List (List ℕ)
+generated_of size seeds = map (λ s. generated s size) seeds
+
+-- the chunks so far, each behind its header, and those that are left, after one more
+pub text_on : (size n i w : ℕ) (out all : List ℕ) (s t : Stream) → i < n → (w, t) ≡ next_u64 s → out ++ xorb_text (generated_of size (words (n - i) s)) ≡ all → (out ++ chunk_bytes (generated w size)) ++ xorb_text (generated_of size (words (n - (i + 1)) t)) ≡ all
+text_on size n i w out all s t h e was =
+    append_assoc out (chunk_bytes (generated w size)) (xorb_text (generated_of size (words (n - (i + 1)) t)))
+    ∙ ap (λ (ws : List ℕ). out ++ xorb_text (generated_of size ws)) (sym (words_next n i w s t h e))
+    ∙ was
+
+-- the hashes so far and those of the chunks that are left, after one more
+pub hashes_on : (size n i w : ℕ) (out all : List (List ℕ)) (s t : Stream) → i < n → (w, t) ≡ next_u64 s → out ++ map chunk_hash (generated_of size (words (n - i) s)) ≡ all → (out ++ chunk_hash (generated w size) ∷ []) ++ map chunk_hash (generated_of size (words (n - (i + 1)) t)) ≡ all
+hashes_on size n i w out all s t h e was =
+    append_assoc out (chunk_hash (generated w size) ∷ []) (map chunk_hash (generated_of size (words (n - (i + 1)) t)))
+    ∙ ap (λ (ws : List ℕ). out ++ map chunk_hash (generated_of size ws)) (sym (words_next n i w s t h e))
+    ∙ was
+
 -- the seeds so far and those that are left, after one more
 pub words_on : (size n i w : ℕ) (out all : List (ℕ × ℕ)) (s t : Stream) → i < n → (w, t) ≡ next_u64 s → out ++ seeded_specs size (words (n - i) s) ≡ all → (out ++ (w, size) ∷ []) ++ seeded_specs size (words (n - (i + 1)) t) ≡ all
 words_on size n i w out all s t h e was =
-    let first : (next_u64 s).0 ≡ w = ap (λ p. p.0) (sym e) in
-    let rest : (next_u64 s).1 ≡ t = ap (λ p. p.1) (sym e) in
-    let step : words (n - i) s ≡ w ∷ words (n - (i + 1)) t = words-step n i s h ∙ ap (λ (x : ℕ). x ∷ words (n - (i + 1)) (next_u64 s).1) first ∙ ap (λ (u : Stream). w ∷ words (n - (i + 1)) u) rest in
-    append_assoc out ((w, size) ∷ []) (seeded_specs size (words (n - (i + 1)) t)) ∙ ap (λ (ws : List ℕ). out ++ seeded_specs size ws) (sym step) ∙ was
+    append_assoc out ((w, size) ∷ []) (seeded_specs size (words (n - (i + 1)) t)) ∙ ap (λ (ws : List ℕ). out ++ seeded_specs size ws) (sym (words_next n i w s t h e)) ∙ was
 
 -- ---- what is at hand of a xorb's chunks
 

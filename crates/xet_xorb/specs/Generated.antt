@@ -9,8 +9,9 @@ use Rattle.xet_types.specs.declared.error.ClientError.{ClientError}
 use Rattle.xet_types.specs.declared.error.ClientError.TheVariants.{InvalidArguments, OutOfMemory}
 use Rattle.xet_xorb.specs.declared.generate.RandomChunkInfo.{RandomChunkInfo}
 use Rattle.xet_xorb.specs.declared.random.RandomXorb.TheInside.{Inside}
+use Rattle.xet_xorb.specs.Values.{Xorb}
 use Rattle.xet_xorb.specs.ChunkLists.{IsWellFormed, object_of, joined}
-use Rattle.xet_xorb.specs.XorbBytes.{chunk_bytes, xorb_text}
+use Rattle.xet_xorb.specs.XorbBytes.{chunk_bytes, xorb_text, xorb_bytes}
 use Rattle.xet_xorb.specs.Footers.{tail_bytes}
 use Rattle.xet_xorb.specs.Contents.{IsRangeOf}
 
@@ -85,6 +86,29 @@ Generates chunks (Ok xorb) = IsWellFormed chunks × (xorb ≡ chunks)
 Generates chunks (Err OutOfMemory) = Unit {0}
 Generates chunks (Err InvalidArguments) = IsWellFormed chunks → ⊥
 Generates chunks (Err e) = ⊥
+
+-- what is known of the xorb of these chunks, and its bytes with the footer
+pub record IsSerialized (chunks : List (List ℕ)) (made : Xorb × List ℕ) : Type 0 where
+  pub formed : IsWellFormed chunks
+  pub object : made.0 ≡ object_of chunks
+  pub text : made.1 ≡ xorb_bytes chunks
+
+-- The bytes of the xorb of these chunks are made exactly where they are those of a xorb, unless memory runs out.
+abbrev pub GeneratesBytes : List (List ℕ) → Result (Xorb × List ℕ) ClientError → Type 0
+GeneratesBytes chunks (Ok made) = IsSerialized chunks made
+GeneratesBytes chunks (Err OutOfMemory) = Unit {0}
+GeneratesBytes chunks (Err InvalidArguments) = IsWellFormed chunks → ⊥
+GeneratesBytes chunks (Err e) = ⊥
+
+-- a chunk was added to bytes behind its header, and this is its hash
+pub record PutsHashed (before chunk after given : List ℕ) : Type 0 where
+  pub text : after ≡ before ++ chunk_bytes chunk
+  pub hash : given ≡ chunk_hash chunk
+
+-- chunks were added to bytes, each behind its header, and their hashes to hashes
+pub record PutsAllHashed (before : List ℕ) (known : List (List ℕ)) (chunks : List (List ℕ)) (after : List ℕ) (all : List (List ℕ)) : Type 0 where
+  pub text : after ≡ before ++ xorb_text chunks
+  pub hashes : all ≡ known ++ map chunk_hash chunks
 
 -- the chunks from one to another, each behind its header, and the footer where there is no chunk of the last number
 abbrev pub met_bytes : List (List ℕ) → ℕ → ℕ → List ℕ

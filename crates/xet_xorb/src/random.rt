@@ -1,5 +1,5 @@
 //! Xorbs whose chunks are generated from seeds, so that their bytes need not be kept.
-ghost use Rattle.std.specs.Prelude.{◌≡◌, ◌+◌, ◌≤◌, ◌<◌, ◌++◌, length, map, slice_get, slice_range, IfOk, OnOk};
+ghost use Rattle.std.specs.Prelude.{◌≡◌, ◌↔◌, ◌+◌, ◌≤◌, ◌<◌, ◌++◌, length, map, replicate, slice_get, slice_range, IsTrue, IfOk, OnOk};
 ghost use Rattle.xet_types.specs.Names.{chunk_hash, xorb_name};
 ghost use Rattle.xet_xorb.specs.Lengths.{AreLengths, packed_before};
 ghost use Rattle.xet_xorb.specs.ChunkLists.{IsWellFormed, lengths_of, joined, object_of};
@@ -100,6 +100,13 @@ impl RandomXorb {
         }
         let chunk_specs = seeded_specs(alloc, seed, num_chunks, chunk_size)?;
         Ok(xorb_of(alloc, chunk_specs.as_slice())?)
+    }
+
+    /// Whether `from_seed` takes so many chunks of `chunk_size` bytes, whatever the seed: they are those of a xorb.
+    pub fn can_be_made(num_chunks: u32, chunk_size: u32) -> bool
+        ensures { IsTrue result ↔ AreLengths (replicate num_chunks chunk_size) }
+    {
+        are_equal_lengths(num_chunks, chunk_size)
     }
 
     /// Another one of the same chunks.
@@ -290,3 +297,6 @@ impl RandomXorb {
         self.object
     }
 }
+
+#[cfg(test)]
+mod tests;
