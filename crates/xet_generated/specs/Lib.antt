@@ -1,0 +1,4 @@
+pub mod Terms
+pub mod Shards
+pub mod Contents
+pub mod Making
