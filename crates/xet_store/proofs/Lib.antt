@@ -17,3 +17,8 @@ pub mod Sets
 pub mod Checking
 pub mod ReadableLaws
 pub mod ServingLaws
+mod Undoing
+mod GeneratedFiles
+pub mod Joining
+pub mod Batching
+mod Uploading

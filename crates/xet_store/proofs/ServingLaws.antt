@@ -36,7 +36,7 @@ use Rattle.xet_store.proofs.ReadableLaws.{readable_faultless}
 abbrev of_parts : FinMap hash_cmp Chunks → List ShardModel → Hashes → Bool
 of_parts xorbs shards hidden = readable (parts xorbs shards hidden)
 
-same_readable : (m n : StoreModel) → HaveSameSets m n → readable n ≡ readable m
+pub same_readable : (m n : StoreModel) → HaveSameSets m n → readable n ≡ readable m
 same_readable m n same =
     ap (λ (x : FinMap hash_cmp Chunks). of_parts x n.shards n.hidden) same.xorbs
     ∙ ap (λ (ss : List ShardModel). of_parts m.xorbs ss n.hidden) same.shards

@@ -23,7 +23,10 @@ use Rattle.xet_shard.specs.Listings.{ShardModel}
 use Rattle.xet_shard.specs.Canonical.{shard_name, canonical_of}
 use Rattle.xet_plan.specs.FileBytes.{Describes}
 use Rattle.xet_store.specs.StoreModel.{StoreModel, Chunks, Hashes, empty, stored, listing, lists, last_shard, IsSound, NamesDiffer, known_of, content_of, with_xorb, with_shard, without_shard, shard_named, shown, accepted, or_else, listed_in}
-use Rattle.xet_store.specs.Commands.{Outcome, UploadsXorb, UploadsOver, UploadsFresh, UploadsShard, done, delete_shard, set_max_ranges, InsertsSeeded}
+use Rattle.xet_generated.specs.Terms.{Term, xorbs_of}
+use Rattle.xet_generated.specs.Shards.{generated_shard}
+use Rattle.xet_generated.specs.Contents.{FileModel}
+use Rattle.xet_store.specs.Commands.{Outcome, UploadsXorb, UploadsOver, UploadsFresh, UploadsShard, done, delete_shard, set_max_ranges, InsertsSeeded, InsertsLazy, with_absent, with_all_absent}
 use Rattle.xet_store.proofs.Listings.{same_turned}
 
 -- ---- xorbs
@@ -193,6 +196,17 @@ inserts_sound old new seed count size (Ok hash) u sound =
     subst IsSound (sym u.1.1) (absent_sound (is_some (stored old (xorb_name chunks))) old (xorb_name chunks) chunks u.0 refl sound)
 inserts_sound old new seed count size (Err refusals.InvalidArguments) u sound = subst IsSound (sym u.1) sound
 inserts_sound old new seed count size (Err why) u sound = absurd u
+
+-- and so does a generated file
+all_absent_sound : (old : StoreModel) (xorbs : List Chunks) → AllByRecursion IsWellFormed xorbs → IsSound old → IsSound (with_all_absent old xorbs)
+all_absent_sound old [] formed sound = sound
+all_absent_sound old (x ∷ xs) formed sound = all_absent_sound (with_absent old x) xs formed.1 (absent_sound (is_some (stored old (xorb_name x))) old (xorb_name x) x formed.0 refl sound)
+
+pub lazy_sound : (old new : StoreModel) (terms : List Term) (size : ℕ) (result : Result FileModel Refusal) → InsertsLazy old terms size result new → IsSound old → IsSound new
+lazy_sound old new terms size (Ok contents) u sound =
+    subst IsSound (sym u.2) (accepted_sound (with_all_absent old (xorbs_of terms size)) (canonical_of (generated_shard terms size)) (all_absent_sound old (xorbs_of terms size) u.0.xorbs sound))
+lazy_sound old new terms size (Err refusals.InvalidArguments) u sound = subst IsSound (sym u.1) sound
+lazy_sound old new terms size (Err why) u sound = absurd u
 
 -- and so does one of a shard
 pub uploads_shard_sound : (old new : StoreModel) (content : List ℕ) (result : Result Bool Refusal) → UploadsShard old content result new → IsSound old → IsSound new

@@ -1,5 +1,6 @@
 -- What the commands of a store answer and leave.
 use Rattle.std.specs.Prelude.{◌≡◌, ◌≢◌, ℕ, ◌==◌, Bool, true, List, Option, Some, None, Result, Ok, Err, if◌then◌else◌, ◌+◌, ◌/◌, nat_eq, false, not}
+use Rattle.std.specs.List.{fold}
 use Rattle.std.specs.Option.{is_some}
 use Rattle.std.specs.FinMap.{FinMap, get, insert, remove, retain_keys}
 use Rattle.xet_types.specs.declared.error.Refusal.{Refusal}
@@ -13,6 +14,9 @@ use Rattle.xet_xorb.specs.XorbBytes.{IsXorbText}
 use Rattle.xet_shard.specs.Listings.{ShardModel}
 use Rattle.xet_shard.specs.ShardBytes.{IsReadAs}
 use Rattle.xet_shard.specs.Canonical.{canonical_of}
+use Rattle.xet_generated.specs.Terms.{Term, xorbs_of, CanGenerate}
+use Rattle.xet_generated.specs.Shards.{generated_shard}
+use Rattle.xet_generated.specs.Contents.{FileModel, lazy_contents}
 use Rattle.xet_store.specs.StoreModel.{StoreModel, Chunks, stored, with_xorb, accepted, shard_named, without_shard}
 
 -- ---- uploads of xorbs
@@ -130,3 +134,19 @@ abbrev pub InsertsSeeded : StoreModel → ℕ → ℕ → ℕ → Result (List �
 InsertsSeeded old seed count size (Ok hash) new = IsWellFormed (seeded_chunks seed count size) × Is (insert_xorb old (seeded_chunks seed count size)) (Ok hash) new
 InsertsSeeded old seed count size (Err InvalidArguments) new = (IsWellFormed (seeded_chunks seed count size) → ⊥) × (new ≡ old)
 InsertsSeeded old seed count size (Err why) new = ⊥
+
+-- ---- generated files
+
+-- each xorb under its name, where none is stored there
+abbrev pub with_all_absent : StoreModel → List Chunks → StoreModel
+with_all_absent old xorbs = fold with_absent old xorbs
+
+-- the xorb of each seed is stored, where none is under its name, and the shard of the file is accepted in canonical form
+abbrev pub with_generated : StoreModel → List Term → ℕ → StoreModel
+with_generated old terms size = accepted (with_all_absent old (xorbs_of terms size)) (canonical_of (generated_shard terms size))
+
+-- The file of these terms is stored, where they are those of a file.
+abbrev pub InsertsLazy : StoreModel → List Term → ℕ → Result FileModel Refusal → StoreModel → Type 0
+InsertsLazy old terms size (Ok contents) new = CanGenerate terms size × (contents ≡ lazy_contents terms size) × (new ≡ with_generated old terms size)
+InsertsLazy old terms size (Err InvalidArguments) new = (CanGenerate terms size → ⊥) × (new ≡ old)
+InsertsLazy old terms size (Err why) new = ⊥

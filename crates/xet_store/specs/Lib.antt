@@ -15,3 +15,6 @@ pub mod TermData
 pub mod Lists
 pub mod Checks
 pub mod Checking
+pub mod Undoing
+pub mod Batches
+pub mod GeneratedUploads

@@ -7,7 +7,8 @@ ghost use Rattle.xet_types.specs.declared.error.Refusal.TheVariants.{Other, Inva
 ghost use Rattle.xet_types.specs.declared.error.ClientError.TheVariants as errors;
 ghost use Rattle.xet_store.specs.StoreModel.{accepted, shown, listing, live, shard_named};
 ghost use Rattle.xet_store.specs.Answered.{Answered};
-ghost use Rattle.xet_store.specs.Commands.{UploadsXorb, UploadsShard, delete_xorb, delete_shard, hide_file, set_expiration, set_max_ranges, set_dedup_expiration, seconds_asked};
+ghost use Rattle.xet_store.specs.Commands.{UploadsXorb, UploadsShard, delete_xorb, delete_shard, hide_file, set_expiration, set_max_ranges, set_dedup_expiration, seconds_asked, with_absent, with_all_absent};
+ghost use Rattle.xet_store.specs.Undoing.{without_xorbs};
 ghost use Rattle.xet_shard.specs.Values.{size_of};
 ghost use Rattle.xet_plan.specs.Places.{interval};
 ghost use Rattle.xet_store.specs.Questions.{asked, data_at, dedup_shard};
@@ -30,6 +31,7 @@ mod shards;
 mod term;
 mod xorb;
 
+use crate::batch::batch;
 use crate::client::Client;
 use crate::deletion::DeletionControlableClient;
 use crate::direct_access::DirectAccessClient;
@@ -47,11 +49,13 @@ use std::marker::Model;
 use std::sync::Arc;
 use term::{join, named_xorb};
 use xet_bytes::ByHash;
+use xet_generated::{GeneratedFile, GeneratedXorb, RandomFileContents};
 use xet_plan::{Footers, Plan, compute_reconstruction_ranges};
 use xet_shard::{FileListing, eligible_among_xorbs, read_shard};
 use xet_types::{
-    ChunkRange, ClientError, FileRange, Items, MerkleHash, OutOfMemory,
-    QueryReconstructionResponse, QueryReconstructionResponseV2, XorbReconstructionFetchInfo,
+    BatchQueryReconstructionResponse, ChunkRange, ClientError, FileRange, Items, MerkleHash,
+    OutOfMemory, QueryReconstructionResponse, QueryReconstructionResponseV2,
+    XorbReconstructionFetchInfo,
 };
 use xet_xorb::{RandomXorb, SerializedXorbObject, XorbObject, read_xorb};
 use xorb::StoredXorb;
@@ -164,6 +168,87 @@ impl MemoryClient {
             show(&mut self.hidden, shard.files());
         }
         Ok(())
+    }
+
+    /// Stores a xorb, where none is stored under its name, which is then noted. Where there is no memory, taking the noted xorbs out
+    /// gives what it gave before.
+    fn put_absent(
+        &mut self,
+        xorb: StoredXorb,
+        added: &mut Vec<MerkleHash>,
+    ) -> Result<(), OutOfMemory>
+        ensures ok { OnOk result (self.new ≡ with_absent self.old xorb) }
+        ensures undone { without_xorbs self.new added.new.items ≡ without_xorbs self.old added.old.items }
+    {
+        let hash = xorb.xorb_hash();
+        if self.xorbs.contains(&hash) {
+            return Ok(());
+        }
+        added.push(hash)?;
+        self.xorbs.insert(hash, xorb)?;
+        Ok(())
+    }
+
+    /// Stores each xorb, where none is stored under its name, and notes these names.
+    fn put_all_absent(
+        &mut self,
+        alloc: Global,
+        xorbs: Vec<GeneratedXorb>,
+        added: &mut Vec<MerkleHash>,
+    ) -> Result<(), OutOfMemory>
+        ensures ok { OnOk result (self.new ≡ with_all_absent self.old xorbs.items) }
+        ensures undone { without_xorbs self.new added.new.items ≡ without_xorbs self.old added.old.items }
+    {
+        for xorb in xorbs {
+            let stored = StoredXorb::made(alloc, xorb)?;
+            self.put_absent(stored, added)?;
+        }
+        Ok(())
+    }
+
+    /// The same, and accepts a shard in canonical form then.
+    fn accept_with(
+        &mut self,
+        alloc: Global,
+        xorbs: Vec<GeneratedXorb>,
+        shard: KeptShard,
+        added: &mut Vec<MerkleHash>,
+    ) -> Result<(), OutOfMemory>
+        ensures ok { OnOk result (self.new ≡ accepted (with_all_absent self.old xorbs.items) shard) }
+        ensures undone { OnErr result (without_xorbs self.new added.new.items ≡ without_xorbs self.old added.old.items) }
+    {
+        self.put_all_absent(alloc, xorbs, added)?;
+        self.accept(alloc, shard)
+    }
+
+    /// Takes xorbs out. Takes no memory.
+    fn take_out(&mut self, alloc: Global, hashes: &[MerkleHash])
+        ensures { self.new ≡ without_xorbs self.old hashes.now }
+    {
+        for hash in hashes {
+            let _done = self.delete_xorb(alloc, hash);
+        }
+    }
+
+    /// Stores each xorb, where none is stored under its name, and accepts a shard in canonical form. Where there is no memory, all
+    /// stays as it was.
+    fn put_generated(
+        &mut self,
+        alloc: Global,
+        xorbs: Vec<GeneratedXorb>,
+        shard: KeptShard,
+    ) -> Result<(), OutOfMemory>
+        ensures ok { OnOk result (self.new ≡ accepted (with_all_absent self.old xorbs.items) shard) }
+        ensures err { OnErr result (self.new ≡ self.old) }
+    {
+        let mut added = Vec::new(alloc);
+        match self.accept_with(alloc, xorbs, shard, &mut added) {
+            Ok(()) => Ok(()),
+            Err(e) => {
+                self.take_out(alloc, &added);
+                Err(e)
+            }
+        }
     }
 
     /// The stored shard that the chunk's entry names.
@@ -692,6 +777,29 @@ impl Store for MemoryClient {
         let stored = StoredXorb::generated(alloc, xorb)?;
         self.xorbs.insert(hash, stored)?;
         Ok(hash)
+    }
+
+    fn insert_random_lazy_file(
+        &mut self,
+        alloc: Global,
+        term_spec: &[(u64, (u64, u64))],
+        chunk_size: usize,
+    ) -> Result<RandomFileContents, ClientError> {
+        let file = GeneratedFile::new(alloc, term_spec, chunk_size)?;
+        let shard = file.shard(alloc)?;
+        let shard = KeptShard::canonical(alloc, &shard)?;
+        let (xorbs, contents) = file.into_parts();
+        self.put_generated(alloc, xorbs, shard)?;
+        Ok(contents)
+    }
+
+    fn batch_get_reconstruction(
+        &mut self,
+        alloc: Global,
+        file_ids: &[MerkleHash],
+        at: u64,
+    ) -> Result<BatchQueryReconstructionResponse, ClientError> {
+        batch(self, alloc, file_ids, at)
     }
 
     ghost footers = { λ _. refl };

@@ -4,15 +4,19 @@ ghost use Rattle.std.specs.Option.{option_map};
 ghost use Rattle.xet_plan.specs.Footers.{FailsOnlyByFault};
 ghost use Rattle.xet_store.specs.StoreModel.{StoreModel, known_of};
 ghost use Rattle.xet_store.specs.Told.{Asks, Follows};
-ghost use Rattle.xet_store.specs.Refusals.{RefusedBy, OfCheck, OfOutside};
+ghost use Rattle.xet_store.specs.Refusals.{RefusedBy, OfCheck, OfGenerated, OfOutside, OfPlan};
 ghost use Rattle.xet_store.specs.Checks.{checked, readable, IsServing};
-ghost use Rattle.xet_store.specs.Commands.{Is, insert_xorb};
+ghost use Rattle.xet_store.specs.Commands.{Is, InsertsLazy, insert_xorb};
+ghost use Rattle.xet_store.specs.Acceptance.{AcceptsTerms};
+ghost use Rattle.xet_generated.specs.Contents.{lazy_contents};
+ghost use Rattle.xet_store.specs.Batches.{RespondsToAll};
 
 use crate::deletion::DeletionControlableClient;
 use crate::direct_access::DirectAccessClient;
 use std::alloc::Global;
+use xet_generated::RandomFileContents;
 use xet_plan::Footers;
-use xet_types::{ClientError, MerkleHash};
+use xet_types::{BatchQueryReconstructionResponse, ClientError, MerkleHash};
 use xet_xorb::RandomXorb;
 
 /// A store: all calls of its clients over one model and one count of faults, and the footers of its xorbs.
@@ -42,6 +46,40 @@ pub trait Store: DirectAccessClient + DeletionControlableClient + Footers {
     ) -> Result<MerkleHash, ClientError>
         ensures told { (m : StoreModel) → Self.Client.told self.old ≡ Some m → Follows (Is (insert_xorb m xorb)) m result (Self.Client.told self.new) }
         ensures refusals { RefusedBy OfOutside result }
+        ensures cause { FailsOnlyByFault (Self.Client.faults self.old) (Self.Client.faults self.new) result };
+
+    /// Stores a generated file: the xorb of each seed, where none is stored under its name, and a shard that lists the file and the
+    /// xorbs. Answers what the file holds, without the xorbs.
+    ///
+    /// A term is a seed and a range of the chunks of the seed's xorb. A xorb has as many chunks as the greatest end of its terms says,
+    /// of `chunk_size` bytes each, which are those of `RandomXorb::from_seed`. `InvalidArguments` exactly where there are 2^32 terms or
+    /// more, a term's range is empty or reversed, or the chunks of a seed aren't those of a xorb. This is tested before anything is
+    /// generated.
+    fn insert_random_lazy_file(
+        &mut self,
+        alloc: Global,
+        term_spec: &[(u64, (u64, u64))],
+        chunk_size: usize,
+    ) -> Result<RandomFileContents, ClientError>
+        ensures told { (m : StoreModel) → Self.Client.told self.old ≡ Some m → Follows (InsertsLazy m term_spec.now chunk_size) m result (Self.Client.told self.new) }
+        ensures refusals { RefusedBy OfGenerated result }
+        ensures accepts { AcceptsTerms term_spec.now chunk_size (lazy_contents term_spec.now chunk_size) result }
+        ensures cause { FailsOnlyByFault (Self.Client.faults self.old) (Self.Client.faults self.new) result };
+
+    /// The plans of version 1 of whole files in the asked order, taken together, at a moment in milliseconds: the terms of each live
+    /// file, and what to fetch of each xorb, one plan behind the other. Files that aren't live are left out; a file that is asked
+    /// twice has its terms once and its links twice.
+    ///
+    /// Refused as the first of the plans that is refused.
+    fn batch_get_reconstruction(
+        &mut self,
+        alloc: Global,
+        file_ids: &[MerkleHash],
+        at: u64,
+    ) -> Result<BatchQueryReconstructionResponse, ClientError>
+        ensures told { (m : StoreModel) → Self.Client.told self.old ≡ Some m → Asks (RespondsToAll m file_ids.now at) result }
+        ensures refusals { RefusedBy OfPlan result }
+        ensures stays { Self.Client.told self.new ≡ Self.Client.told self.old }
         ensures cause { FailsOnlyByFault (Self.Client.faults self.old) (Self.Client.faults self.new) result };
 
     /// The footers are those of the stored xorbs.

@@ -1,5 +1,7 @@
 //! Every call of a store, on its happy path and in each refusal: rows that run through any store. The names are SHA-256 by another
 //! program, over bytes that it made itself.
+mod deletion;
+
 use crate::memory::MemoryClient;
 use crate::store::Store;
 use bytes::Bytes;

@@ -2,6 +2,7 @@
 ghost use Rattle.std.specs.Prelude.{◌≡◌, ◌<◌, ◌≤◌, ◌^◌, ◌++◌, [], length, sum, slice_index_or, slice_range, IfOk, OnOk, ⊤};
 ghost use Rattle.std.specs.List.{concat};
 ghost use Rattle.std.specs.Arc.{arc_value};
+ghost use Rattle.xet_types.specs.Names.{xorb_name};
 ghost use Rattle.xet_xorb.specs.ChunkLists.{IsWellFormed, lengths_of, object_of, joined};
 ghost use Rattle.xet_xorb.specs.XorbBytes.{xorb_bytes, IsReadOf};
 ghost use Rattle.xet_store.specs.Answered.{Answered};
@@ -12,7 +13,8 @@ use bytes::Bytes;
 use std::alloc::Global;
 use std::marker::Model;
 use std::sync::Arc;
-use xet_types::{ChunkRange, ClientError, Items, OutOfMemory};
+use xet_generated::GeneratedXorb;
+use xet_types::{ChunkRange, ClientError, Items, MerkleHash, OutOfMemory};
 use xet_xorb::{RandomXorb, ReadXorb, XorbObject, footed_text};
 
 /// The length in bytes of a chunk's header.
@@ -55,6 +57,23 @@ impl StoredXorb {
         let text = xorb.get_full_serialized(alloc)?;
         let object = Arc::new(alloc, xorb.into_object())?;
         Ok(StoredXorb { text, object })
+    }
+
+    /// A xorb of a generated file, whose bytes are kept, without a copy.
+    pub fn made(alloc: Global, xorb: GeneratedXorb) -> Result<StoredXorb, OutOfMemory>
+        ensures { IfOk result (λ stored. stored ≡ xorb) }
+    {
+        let (object, text) = xorb.into_parts();
+        let object = Arc::new(alloc, object)?;
+        Ok(StoredXorb { text, object })
+    }
+
+    /// The name of the xorb.
+    pub fn xorb_hash(&self) -> MerkleHash
+        ensures name { result ≡ xorb_name self.now }
+        ensures formed { IsWellFormed self.now }
+    {
+        self.object().xorb_hash()
     }
 
     /// What is known of it without its chunks.
