@@ -1,6 +1,8 @@
 -- What the planner and the store answer, and why.
-use Rattle.std.proofs.Common.{◌≡◌, ℕ, inl, inr, true, false, Bool, cond, List, [], ◌∷◌, Option, Some, None, Result, Ok, Err, refl, sym, ap, subst, eqb}
+use Rattle.std.proofs.Common.{◌≡◌, ◌∙◌, ◌++◌, map, ℕ, inl, inr, true, false, Bool, cond, List, [], ◌∷◌, Option, Some, None, Result, Ok, Err, refl, sym, ap, subst, eqb}
 use Rattle.std.specs.Option.{is_some}
+use Rattle.std.specs.List.{AllByRecursion}
+use Rattle.xet_types.specs.Records.{FirstPlan}
 use Rattle.std.proofs.lemmas.Bool.{eqb-true}
 use Rattle.xet_types.specs.declared.error.Refusal.{Refusal}
 use Rattle.xet_types.specs.declared.error.Refusal.TheVariants.{FormatError, InvalidRange, InvalidArguments, XORBNotFound, FileNotFound, Other}
@@ -15,14 +17,19 @@ use Rattle.xet_plan.specs.declared.place.Reach.{Reach}
 use Rattle.xet_plan.specs.declared.place.Reach.TheVariants.{Past, Reversed, Within}
 use Rattle.xet_plan.specs.Plans.{PlanModel}
 use Rattle.xet_store.specs.StoreModel.{StoreModel, Chunks, stored, listing, known_of, shard_named, without_shard}
-use Rattle.xet_store.specs.Commands.{Is, done, UploadsXorb, UploadsOver, UploadsFresh, UploadsShard, delete_shard, set_max_ranges, InsertsSeeded}
+use Rattle.xet_generated.specs.Terms.{Term}
+use Rattle.xet_store.specs.Commands.{Is, done, UploadsXorb, UploadsOver, UploadsFresh, UploadsShard, delete_shard, set_max_ranges, InsertsSeeded, InsertsLazy}
 use Rattle.xet_store.specs.Checks.{checked}
 use Rattle.xet_store.specs.Questions.{asked, data_agreed, data_asked, data_listed, file_data, size_listed, file_size}
 use Rattle.xet_store.specs.Plans.{PlansFile, PlansListed, PlansReached, PlansWithin, Serves}
-use Rattle.xet_service.specs.declared.step.Act.TheVariants.{UploadXorb, UploadShard, Plan, DeleteShard, SetMaxRanges, FileSize, FileData, CheckIntegrity, CheckReachable, CheckReadable, InsertRandomXorb}
+use Rattle.xet_service.specs.declared.step.Act.TheVariants.{UploadXorb, UploadShard, Plan, DeleteShard, SetMaxRanges, FileSize, FileData, CheckIntegrity, CheckReachable, CheckReadable, InsertRandomXorb, Batch, InsertLazyFile}
 use Rattle.xet_service.specs.declared.step.PlanVersion.{PlanVersion}
+use Rattle.xet_store.specs.Responses.{first_of as first_at, response_by, Responds}
+use Rattle.xet_store.specs.Batches.{FileAnswer, answered_file, whole_file, IsAnswered, RespondsToAll}
+use Rattle.xet_service.specs.declared.reply.Reply.{Reply}
 use Rattle.xet_service.specs.World.{State}
-use Rattle.xet_service.specs.Causes.{HasCause, PlansLive, PlansNothing, AsksLive}
+use Rattle.xet_service.specs.Steps.{asks, batch_reply, BatchesBy}
+use Rattle.xet_service.specs.Causes.{HasCause, HasNoFault, PlansLive, PlansNothing, AsksLive}
 
 -- ---- plans
 
@@ -84,8 +91,12 @@ shard_refused s at content new (FormatError faults.Shard) h = (h.1, record { con
 shard_refused s at content new why h = absurd h
 
 pub generated_refused : (s : State) (at seed count size : ℕ) (new : StoreModel) (why : Refusal) → InsertsSeeded s.store seed count size (Err why) new → (new ≡ s.store) × HasCause s at (InsertRandomXorb seed count size) why
-generated_refused s at seed count size new InvalidArguments h = (h.1, inr (inr (inr (inr (record { seed = seed; count = count; size = size; is = refl; misshapen = h.0 })))))
+generated_refused s at seed count size new InvalidArguments h = (h.1, inr (inr (inr (inr (inl (record { seed = seed; count = count; size = size; is = refl; misshapen = h.0 }))))))
 generated_refused s at seed count size new why h = absurd h
+
+pub lazy_refused : (s : State) (at : ℕ) (terms : List Term) (size : ℕ) (new : StoreModel) (why : Refusal) → InsertsLazy s.store terms size (Err why) new → (new ≡ s.store) × HasCause s at (InsertLazyFile terms size) why
+lazy_refused s at terms size new InvalidArguments h = (h.1, inr (inr (inr (inr (inr (record { terms = terms; size = size; is = refl; misshapen = h.0 }))))))
+lazy_refused s at terms size new why h = absurd h
 
 -- ---- commands that are functions
 
@@ -170,7 +181,7 @@ module _ (s : State) (at : ℕ) (file : List ℕ) (range : Option (Range ℕ _F)
     where
       of : (f : Refusal) → IsFault f → first_fault (known_of s.store) clip segments ≡ Some f → DataCause f
       of (XORBNotFound hash) i g = inr (inl (record { asks = live_data segments live; clip = clip; inside = inside; fault = g }))
-      of (FormatError faults.Segment) i g = inr (record { asks = live_data segments live; clip = clip; inside = inside; fault = g })
+      of (FormatError faults.Segment) i g = inr (inl (record { asks = live_data segments live; clip = clip; inside = inside; fault = g }))
       of f i g = absurd i
 
   data_of : (segments : List Segment) (clip : Interval) (o : Option Refusal) (why : Refusal) → listing s.store file ≡ Some segments → asked (size_of segments) range ≡ Some clip → first_fault (known_of s.store) clip segments ≡ o → data_agreed s.store segments clip o ≡ Err why → DataCause why
@@ -187,3 +198,50 @@ module _ (s : State) (at : ℕ) (file : List ℕ) (range : Option (Range ℕ _F)
 
   pub data_refused : (why : Refusal) → file_data s.store file range ≡ Err why → DataCause why
   data_refused why h = listed_of (listing s.store file) why refl h
+
+-- ---- plans of several files
+
+-- what is answered is the reply, and nothing changes
+pub batch_asked : (s : State) (at : ℕ) (files : List (List ℕ)) (result : Result Reply Refusal) (t : State) → (h : BatchesBy s files at result t) → asks batch_reply s h.replies.answer ≡ (result, t)
+batch_asked s at files result t h = λ j. (sym h.replies.reply j, sym h.same j)
+
+abbrev first_answer : Result (Option FirstPlan) Refusal → Result (Option FirstPlan) Refusal
+first_answer r = r
+
+module _ (s : State) (at : ℕ) where
+  -- the plan of a live file that isn't refused is without faults
+  served_faultless : (o : Option FirstPlan) (segments : List Segment) (r : Result (Option PlanModel) Refusal) → first_answer (Ok o) ≡ response_by (first_at at) r → PlansWithin (known_of s.store) segments None (interval 0 (size_of segments)) r
+      → first_fault (known_of s.store) (interval 0 (size_of segments)) segments ≡ None
+  served_faultless o segments (Ok (Some plan)) e h = h.faultless
+  served_faultless o segments (Ok None) e h = absurd h
+  served_faultless o segments (Err why) e h = absurd cc
+
+  answered_faultless : (a : FileAnswer) → IsAnswered s.store at a → HasNoFault s.store a.0
+  answered_faultless a h segments live = served_faultless a.1 segments h.answer h.response (subst (λ (o : Option (List Segment)). PlansListed (known_of s.store) whole_file o h.answer) live h.plans)
+
+  all_faultless : (answers : List FileAnswer) → AllByRecursion (IsAnswered s.store at) answers → AllByRecursion (HasNoFault s.store) (map answered_file answers)
+  all_faultless [] h = tt
+  all_faultless (a ∷ answers) h = (answered_faultless a h.0, all_faultless answers h.1)
+
+  module _ (before : List (List ℕ)) (file : List ℕ) (after : List (List ℕ)) (faultless : AllByRecursion (HasNoFault s.store) before) where
+    abbrev BatchCause : Refusal → Type 0
+    BatchCause why = HasCause s at (Batch (before ++ file ∷ after)) why
+
+    within_refused : (segments : List Segment) (why : Refusal) → listing s.store file ≡ Some segments → PlansWithin (known_of s.store) segments None (interval 0 (size_of segments)) (Err why) → BatchCause why
+    within_refused segments (XORBNotFound hash) live h = inr (inr (inr (record { before = before; file = file; after = after; is = refl; faultless = faultless; segments = segments; live = live; fault = h })))
+    within_refused segments (FormatError faults.Segment) live h = inr (inr (record { before = before; file = file; after = after; is = refl; faultless = faultless; segments = segments; live = live; fault = h }))
+    within_refused segments why live h = absurd h
+
+    planned_refused : (o : Option (List Segment)) (why : Refusal) → listing s.store file ≡ o → PlansListed (known_of s.store) whole_file o (Err why) → BatchCause why
+    planned_refused None why live h = absurd (let e : ◌≡◌ {A = Result (Option PlanModel) Refusal} (Err why) (Ok None) = h in cc)
+    planned_refused (Some segments) why live h = within_refused segments why live h
+
+    answer_refused : (why : Refusal) (r : Result (Option PlanModel) Refusal) → first_answer (Err why) ≡ response_by (first_at at) r → PlansFile s.store file whole_file r → BatchCause why
+    answer_refused why (Ok (Some plan)) e h = absurd cc
+    answer_refused why (Ok None) e h = absurd cc
+    answer_refused why (Err other) e h = let same : other ≡ why = cc in subst BatchCause same (planned_refused (listing s.store file) other refl h)
+
+  pub batch_refused : (files : List (List ℕ)) (why : Refusal) → RespondsToAll s.store files at (Err why) → HasCause s at (Batch files) why
+  batch_refused files why h =
+      subst (λ (fs : List (List ℕ)). HasCause s at (Batch fs) why) (sym h.of_files)
+      (answer_refused (map answered_file h.answers) h.file h.after (all_faultless h.answers h.each) why h.refused.answer h.refused.response h.refused.plans)

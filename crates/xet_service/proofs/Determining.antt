@@ -1,5 +1,5 @@
 -- An act has one answer, and leaves one state.
-use Rattle.std.proofs.Common.{◌≡◌, ◌∙◌, ℕ, inl, inr, true, false, Bool, List, [], ◌∷◌, length, map, Option, Some, None, Result, Ok, Err, refl, sym, ap, subst}
+use Rattle.std.proofs.Common.{◌≡◌, ◌∙◌, ℕ, inl, inr, true, false, Bool, List, [], ◌∷◌, ◌++◌, length, map, Option, Some, None, Result, Ok, Err, refl, sym, ap, subst}
 use Rattle.std.specs.List.{AllByRecursion}
 use Rattle.std.specs.FinMap.{get}
 use Rattle.xet_types.specs.declared.error.Refusal.{Refusal}
@@ -9,7 +9,7 @@ use Rattle.xet_types.specs.declared.range.Range.{Range}
 use Rattle.xet_types.specs.declared.range._F.{_F}
 use Rattle.xet_types.specs.declared.record.XorbRangeDescriptor.{XorbRangeDescriptor}
 use Rattle.xet_types.specs.Ranges.{file_range_of}
-use Rattle.xet_types.specs.Records.{SecondPlan}
+use Rattle.xet_types.specs.Records.{SecondPlan, FirstPlan, BatchPlan}
 use Rattle.xet_xorb.specs.Lengths.{serialized_length}
 use Rattle.xet_xorb.specs.ChunkLists.{lengths_of}
 use Rattle.xet_xorb.specs.Generated.{seeded_chunks}
@@ -33,15 +33,18 @@ use Rattle.xet_plan.specs.Plans.{PlanModel}
 use Rattle.xet_plan.specs.Answers.{packed_at, groups_of}
 use Rattle.xet_plan.proofs.Unique.{merged_unique}
 use Rattle.xet_store.specs.StoreModel.{StoreModel, Chunks, stored, listing, known_of, with_xorb, accepted}
-use Rattle.xet_store.specs.Commands.{Outcome as StoreOutcome, Is, UploadsXorb, UploadsOver, UploadsFresh, UploadsShard, hide_file, delete_shard, delete_xorb, set_expiration, set_max_ranges, set_dedup_expiration, drop_dedup, insert_xorb, InsertsSeeded}
+use Rattle.xet_generated.specs.Terms.{Term}
+use Rattle.xet_generated.specs.Contents.{FileModel}
+use Rattle.xet_store.specs.Commands.{Outcome as StoreOutcome, Is, UploadsXorb, UploadsOver, UploadsFresh, UploadsShard, hide_file, delete_shard, delete_xorb, set_expiration, set_max_ranges, set_dedup_expiration, drop_dedup, insert_xorb, InsertsSeeded, InsertsLazy}
 use Rattle.xet_store.specs.TermData.{is_expired}
 use Rattle.xet_store.specs.Questions.{file_size, file_data, dedup_answer, xorb_hashes}
 use Rattle.xet_store.specs.Lists.{shard_hashes, file_entries}
 use Rattle.xet_store.specs.Checks.{checked, integrity, reachable, readable}
 use Rattle.xet_store.specs.Plans.{Serves, PlansListed, PlansReached, PlansWithin}
-use Rattle.xet_store.specs.Responses.{response_by, RespondsBy}
+use Rattle.xet_store.specs.Responses.{response_by, RespondsBy, first_of, Responds}
+use Rattle.xet_store.specs.Batches.{FileAnswer, answered_file, whole_file, IsAnswered, plans_in, batch_of, RespondsToAll}
 use Rattle.xet_service.specs.declared.step.Act.{Act}
-use Rattle.xet_service.specs.declared.step.Act.TheVariants.{UploadXorb, UploadShard, Plan, Fetch, Abandon, HideFile, DeleteShard, DeleteXorb, SetExpiration, SetMaxRanges, FileSize, FileData, SetDedupExpiration, DedupQuery, RemoveDedup, ListXorbs, ListShards, ListFiles, CheckIntegrity, CheckReachable, CheckReadable, InsertRandomXorb}
+use Rattle.xet_service.specs.declared.step.Act.TheVariants.{UploadXorb, UploadShard, Plan, Fetch, Abandon, HideFile, DeleteShard, DeleteXorb, SetExpiration, SetMaxRanges, FileSize, FileData, SetDedupExpiration, DedupQuery, RemoveDedup, ListXorbs, ListShards, ListFiles, CheckIntegrity, CheckReachable, CheckReadable, InsertRandomXorb, Batch, InsertLazyFile}
 use Rattle.xet_service.specs.declared.step.PlanVersion.{PlanVersion}
 use Rattle.xet_service.specs.declared.reply.Reply.{Reply}
 use Rattle.xet_service.specs.declared.reply.Reply.TheVariants.{Uploaded, ShardTaken, Size, Data, Hashes, Files, Random}
@@ -53,7 +56,7 @@ use Rattle.xet_service.specs.Reading.{Reading, left_link, take_link, Accepts}
 use Rattle.xet_service.proofs.ReaderAnswers.{gives_same}
 use Rattle.xet_service.proofs.Sent.{stored_sent_once}
 use Rattle.xet_service.specs.World.{State, Reads}
-use Rattle.xet_service.specs.Steps.{keeps_reads, plan_step, fetch_taken, asked_bytes, TakesBody, FetchesBody, FetchesIf, FetchesLink, FetchesRead, Fetches, abandon_step, map_ok, asks, was_done, Commands, PlansBy, Acts, shard_reply}
+use Rattle.xet_service.specs.Steps.{keeps_reads, plan_step, fetch_taken, asked_bytes, TakesBody, FetchesBody, FetchesIf, FetchesLink, FetchesRead, Fetches, abandon_step, map_ok, asks, was_done, Commands, PlansBy, Acts, shard_reply, batch_reply, BatchesBy, lazy_reply}
 
 -- one answer and one thing left
 abbrev pub Same : {X Y : Type 0} → X → X → Y → Y → Type 0
@@ -117,6 +120,16 @@ module _ (old : StoreModel) (seed count size : ℕ) (n k : StoreModel) where
   inserts_same (Err InvalidArguments) (Err InvalidArguments) h g = (refl, h.1 ∙ sym g.1)
   inserts_same (Err InvalidArguments) (Err why) h g = absurd g
   inserts_same (Err why) b h g = absurd h
+
+module _ (old : StoreModel) (terms : List Term) (size : ℕ) (n k : StoreModel) where
+  pub lazy_same : (a b : Result FileModel Refusal) → InsertsLazy old terms size a n → InsertsLazy old terms size b k → Same a b n k
+  lazy_same (Ok x) (Ok y) h g = (ap Ok (h.1 ∙ sym g.1), h.2 ∙ sym g.2)
+  lazy_same (Ok x) (Err InvalidArguments) h g = absurd (g.0 h.0)
+  lazy_same (Ok x) (Err why) h g = absurd g
+  lazy_same (Err InvalidArguments) (Ok y) h g = absurd (h.0 g.0)
+  lazy_same (Err InvalidArguments) (Err InvalidArguments) h g = (refl, h.1 ∙ sym g.1)
+  lazy_same (Err InvalidArguments) (Err why) h g = absurd g
+  lazy_same (Err why) b h g = absurd h
 
 -- ---- commands
 
@@ -191,12 +204,80 @@ listed_same : (known : Known) (range : Option (Range ℕ _F)) (o : Option (List 
 listed_same known range None a b h g = h ∙ sym g
 listed_same known range (Some segments) a b h g = reached_same known segments range (reach (size_of segments) range) a b h g
 
-responds_same : (f : PlanModel → SecondPlan) (m : StoreModel) (file : List ℕ) (range : Option (Range ℕ _F)) (a b : Result (Option SecondPlan) Refusal) → RespondsBy f m file range a → RespondsBy f m file range b → a ≡ b
+responds_same : {A : Type 0} (f : PlanModel → A) (m : StoreModel) (file : List ℕ) (range : Option (Range ℕ _F)) (a b : Result (Option A) Refusal) → RespondsBy f m file range a → RespondsBy f m file range b → a ≡ b
 responds_same f m file range a b h g = h.response ∙ ap (response_by f) (listed_same (known_of m) range (listing m file) h.answer g.answer h.plans g.plans) ∙ sym g.response
 
 plans_same : (s t u : State) (version : PlanVersion) (file : List ℕ) (range : Option (Range ℕ _F)) (at : ℕ) (r q : Result Reply Refusal) → PlansBy s version file range at r t → PlansBy s version file range at q u → Same r q t u
 plans_same s t u version file range at r q h g =
     pair_same (plan_step s version range at h.answer) r q t u h.step (ap (plan_step s version range at) (responds_same (answer_of version s.store.max_ranges at) s.store file range h.answer g.answer h.responds g.responds) ∙ g.step)
+
+-- ---- plans of several files
+
+abbrev ok_plan : Option FirstPlan → Result (Option FirstPlan) Refusal
+ok_plan o = Ok o
+
+abbrev err_plan : Refusal → Result (Option FirstPlan) Refusal
+err_plan why = Err why
+
+abbrev ok_batch : BatchPlan → Result BatchPlan Refusal
+ok_batch b = Ok b
+
+module _ (m : StoreModel) (at : ℕ) where
+  abbrev AllAnswered : List FileAnswer → Type 0
+  AllAnswered answers = AllByRecursion (IsAnswered m at) answers
+
+  first_same : (f g : List ℕ) (a b : Result (Option FirstPlan) Refusal) → f ≡ g → Responds m f whole_file at a → Responds m g whole_file at b → a ≡ b
+  first_same f g a b e h k = responds_same (first_of at) m g whole_file a b (subst (λ (file : List ℕ). Responds m file whole_file at a) e h) k
+
+  answers_same : (xs ys : List FileAnswer) → map answered_file xs ≡ map answered_file ys → AllAnswered xs → AllAnswered ys → xs ≡ ys
+  answers_same [] [] e h k = refl
+  answers_same [] (b ∷ ys) e h k = absurd cc
+  answers_same (a ∷ xs) [] e h k = absurd cc
+  answers_same (a ∷ xs) (b ∷ ys) e h k =
+      let head : a.0 ≡ b.0 = cc in
+      let tail : map answered_file xs ≡ map answered_file ys = cc in
+      let both : ok_plan a.1 ≡ ok_plan b.1 = first_same a.0 b.0 (ok_plan a.1) (ok_plan b.1) head h.0 k.0 in
+      let plan : a.1 ≡ b.1 = cc in
+      let one : a ≡ b = λ j. (head j, plan j) in
+      rw (one, answers_same xs ys tail h.1 k.1) refl
+
+  -- the first that is refused is one
+  one_refused : (xs ys : List FileAnswer) (f g : List ℕ) (more rest : List (List ℕ)) (v w : Refusal) → map answered_file xs ++ f ∷ more ≡ map answered_file ys ++ g ∷ rest → AllAnswered xs → AllAnswered ys
+      → Responds m f whole_file at (Err v) → Responds m g whole_file at (Err w) → v ≡ w
+  one_refused [] [] f g more rest v w e h k p q =
+      let head : f ≡ g = cc in
+      let both : err_plan v ≡ err_plan w = first_same f g (err_plan v) (err_plan w) head p q in
+      cc
+  one_refused [] (b ∷ ys) f g more rest v w e h k p q =
+      let head : f ≡ b.0 = cc in
+      absurd (let both : err_plan v ≡ ok_plan b.1 = first_same f b.0 (err_plan v) (ok_plan b.1) head p k.0 in cc)
+  one_refused (a ∷ xs) [] f g more rest v w e h k p q =
+      let head : a.0 ≡ g = cc in
+      absurd (let both : ok_plan a.1 ≡ err_plan w = first_same a.0 g (ok_plan a.1) (err_plan w) head h.0 q in cc)
+  one_refused (a ∷ xs) (b ∷ ys) f g more rest v w e h k p q =
+      let tail : map answered_file xs ++ f ∷ more ≡ map answered_file ys ++ g ∷ rest = cc in
+      one_refused xs ys f g more rest v w tail h.1 k.1 p q
+
+  -- where all are answered none is refused
+  none_refused : (xs ys : List FileAnswer) (g : List ℕ) (rest : List (List ℕ)) (w : Refusal) → map answered_file xs ≡ map answered_file ys ++ g ∷ rest → AllAnswered xs → AllAnswered ys → Responds m g whole_file at (Err w) → ⊥
+  none_refused [] [] g rest w e h k q = absurd cc
+  none_refused [] (b ∷ ys) g rest w e h k q = absurd cc
+  none_refused (a ∷ xs) [] g rest w e h k q =
+      let head : a.0 ≡ g = cc in
+      absurd (let both : ok_plan a.1 ≡ err_plan w = first_same a.0 g (ok_plan a.1) (err_plan w) head h.0 q in cc)
+  none_refused (a ∷ xs) (b ∷ ys) g rest w e h k q =
+      let tail : map answered_file xs ≡ map answered_file ys ++ g ∷ rest = cc in
+      none_refused xs ys g rest w tail h.1 k.1 q
+
+  all_same : (files : List (List ℕ)) (a b : Result BatchPlan Refusal) → RespondsToAll m files at a → RespondsToAll m files at b → a ≡ b
+  all_same files (Ok x) (Ok y) h k = ap ok_batch (h.is ∙ ap (λ (xs : List FileAnswer). batch_of (plans_in xs)) (answers_same h.answers k.answers (sym h.of_files ∙ k.of_files) h.each k.each) ∙ sym k.is)
+  all_same files (Ok x) (Err w) h k = absurd (none_refused h.answers k.answers k.file k.after w (sym h.of_files ∙ k.of_files) h.each k.each k.refused)
+  all_same files (Err v) (Ok y) h k = absurd (none_refused k.answers h.answers h.file h.after v (sym k.of_files ∙ h.of_files) k.each h.each h.refused)
+  all_same files (Err v) (Err w) h k = ap Err (one_refused h.answers k.answers h.file k.file h.after k.after v w (sym h.of_files ∙ k.of_files) h.each k.each h.refused k.refused)
+
+batches_same : (s t u : State) (files : List (List ℕ)) (at : ℕ) (r q : Result Reply Refusal) → BatchesBy s files at r t → BatchesBy s files at q u → Same r q t u
+batches_same s t u files at r q h k =
+    (h.replies.reply ∙ ap (map_ok batch_reply) (all_same s.store at files h.replies.answer k.replies.answer h.replies.responds k.replies.responds) ∙ sym k.replies.reply, h.same ∙ sym k.same)
 
 -- ---- fetches
 
@@ -274,3 +355,5 @@ acts_same s t u at CheckReadable r q h g = pair_same (asks was_done s (checked (
 acts_same s t u at (InsertRandomXorb seed count size) r q h g = command_same (InsertsSeeded s.store seed count size) Random s t u r q (λ n k a b. inserts_same s.store seed count size n k a b) h g
 acts_same s t u at (FileSize file) r q h g = pair_same (asks Size s (file_size s.store file)) r q t u h g
 acts_same s t u at (FileData file range) r q h g = pair_same (asks Data s (file_data s.store file range)) r q t u h g
+acts_same s t u at (Batch files) r q h g = batches_same s t u files at r q h g
+acts_same s t u at (InsertLazyFile terms size) r q h g = command_same (InsertsLazy s.store terms size) lazy_reply s t u r q (λ n k a b. lazy_same s.store terms size n k a b) h g

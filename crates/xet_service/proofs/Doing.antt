@@ -14,7 +14,7 @@ use Rattle.xet_store.specs.Commands.{Is, insert_xorb, InsertsSeeded}
 use Rattle.xet_store.specs.Told.{Asks, AsksErr, Follows, FollowsErr, Leaves}
 use Rattle.xet_service.specs.declared.reply.Reply.{Reply}
 use Rattle.xet_service.specs.World.{State, Reads, state}
-use Rattle.xet_service.specs.Steps.{Commands, Does, DoesErr, map_ok, asks}
+use Rattle.xet_service.specs.Steps.{Commands, Does, DoesErr, map_ok, asks, RepliesToAll, BatchesBy}
 
 pub leaves_more : (P Q : StoreModel → Type 0) (after : Option StoreModel) → ((n : StoreModel) → P n → Q n) → Leaves P after → Leaves Q after
 leaves_more P Q None more h = h
@@ -104,3 +104,8 @@ module _ (m : StoreModel) (reads : Reads) (next : ℕ) where
       → Does (λ r s. asks f (state m reads next) (Ok items) ≡ (r, s)) (state m reads next) (map_ok (λ (v : Vec T). f v.items) a) (state m reads next)
   items_do {T} items f (Ok v) h = ap (λ (xs : List T). asks f (state m reads next) (Ok xs)) (sym h)
   items_do {T} items f (Err e) h = asked_does (HasItems (Ok items)) (λ r s. asks f (state m reads next) (Ok items) ≡ (r, s)) (refusal_of e) (λ why none. absurd none) h
+
+  -- the plans of several files
+  pub batch_does : (files : List (List ℕ)) (at : ℕ) (r : Result Reply ClientError) → Asks (RepliesToAll m files at) r → Does (BatchesBy (state m reads next) files at) (state m reads next) r (state m reads next)
+  batch_does files at (Ok reply) h = record { replies = h; same = refl }
+  batch_does files at (Err e) h = asked_does (RepliesToAll m files at) (BatchesBy (state m reads next) files at) (refusal_of e) (λ why a. record { replies = a; same = refl }) h

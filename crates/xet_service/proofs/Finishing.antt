@@ -14,16 +14,16 @@ use Rattle.xet_plan.specs.Places.{Interval}
 use Rattle.xet_plan.specs.FileBytes.{Content, file_bytes as bytes_within}
 use Rattle.xet_plan.specs.Plans.{PlanModel}
 use Rattle.xet_store.specs.StoreModel.{StoreModel, Chunks, known_of, content_of, IsSound}
-use Rattle.xet_store.specs.Commands.{Is, UploadsXorb, UploadsShard, hide_file, delete_shard, delete_xorb, set_expiration, set_max_ranges, set_dedup_expiration, drop_dedup, InsertsSeeded}
+use Rattle.xet_store.specs.Commands.{Is, UploadsXorb, UploadsShard, hide_file, delete_shard, delete_xorb, set_expiration, set_max_ranges, set_dedup_expiration, drop_dedup, InsertsSeeded, InsertsLazy}
 use Rattle.xet_store.specs.TermData.{is_expired}
 use Rattle.xet_store.specs.Questions.{file_size, file_data, dedup_answer, xorb_hashes}
 use Rattle.xet_store.specs.Lists.{shard_hashes, file_entries}
 use Rattle.xet_store.specs.Checks.{checked, integrity, reachable, readable}
 use Rattle.xet_store.specs.Plans.{Serves, file_bytes, bytes_listed, bytes_reached, bytes_clipped}
 use Rattle.xet_store.specs.Responses.{response_by}
-use Rattle.xet_store.proofs.StoreLaws.{uploads_xorb_sound, uploads_shard_sound, fewer_sound, same_sound, without_shard_sound, delete_leaves, set_max_sound, inserts_sound}
+use Rattle.xet_store.proofs.StoreLaws.{uploads_xorb_sound, uploads_shard_sound, fewer_sound, same_sound, without_shard_sound, delete_leaves, set_max_sound, inserts_sound, lazy_sound}
 use Rattle.xet_service.specs.declared.step.Act.{Act}
-use Rattle.xet_service.specs.declared.step.Act.TheVariants.{UploadXorb, UploadShard, Plan, Fetch, Abandon, HideFile, DeleteShard, DeleteXorb, SetExpiration, SetMaxRanges, FileSize, FileData, SetDedupExpiration, DedupQuery, RemoveDedup, ListXorbs, ListShards, ListFiles, CheckIntegrity, CheckReachable, CheckReadable, InsertRandomXorb}
+use Rattle.xet_service.specs.declared.step.Act.TheVariants.{UploadXorb, UploadShard, Plan, Fetch, Abandon, HideFile, DeleteShard, DeleteXorb, SetExpiration, SetMaxRanges, FileSize, FileData, SetDedupExpiration, DedupQuery, RemoveDedup, ListXorbs, ListShards, ListFiles, CheckIntegrity, CheckReachable, CheckReadable, InsertRandomXorb, Batch, InsertLazyFile}
 use Rattle.xet_service.specs.declared.step.PlanVersion.{PlanVersion}
 use Rattle.xet_service.specs.declared.reply.PlannedLink.{PlannedLink}
 use Rattle.xet_service.specs.declared.reply.CacheNote.{CacheNote}
@@ -36,13 +36,13 @@ use Rattle.xet_service.specs.Links.{answer_of}
 use Rattle.xet_service.specs.Reading.{Reading, left_link, count_left, take_link, BringsTo, Accepts, bytes_read}
 use Rattle.xet_service.specs.ReadingPlans.{can_open, reading_of}
 use Rattle.xet_service.specs.World.{State, Reads}
-use Rattle.xet_service.specs.Steps.{Outcome, ReadsOutcome, refuses, keeps_reads, no_note, used_up, read_of, opened, open_links, plan_step, fetch_done, fetch_taken, with_reader, asked_bytes, FetchesBody, FetchesIf, FetchesLink, FetchesRead, abandon_read, map_ok, asks, was_done, Commands, PlansBy, Acts, shard_reply}
+use Rattle.xet_service.specs.Steps.{Outcome, ReadsOutcome, refuses, keeps_reads, no_note, used_up, read_of, opened, open_links, plan_step, fetch_done, fetch_taken, with_reader, asked_bytes, FetchesBody, FetchesIf, FetchesLink, FetchesRead, abandon_read, map_ok, asks, was_done, Commands, PlansBy, Acts, shard_reply, batch_reply, lazy_reply}
 use Rattle.xet_service.specs.Runs.{World, Event, IsStep, Chain, outcome_of, fixed_after, with_fixed}
 use Rattle.xet_service.specs.Validity.{AgreesWith, IsAgreed, NoneOpen}
 use Rattle.xet_service.specs.Headline.{Finishes}
 use Rattle.xet_service.proofs.Left.{by_put, by_gone}
 use Rattle.xet_service.proofs.Planned.{answered_links, planned_empty}
-use Rattle.xet_service.proofs.Causing.{Reached, Says, plan_says}
+use Rattle.xet_service.proofs.Causing.{Reached, Says, plan_says, batch_asked}
 use Rattle.xet_service.proofs.Keeping.{reply_is}
 use Rattle.xet_service.proofs.Goods.{GoodRead, GoodLink, IsGoodAt, GoodAt, Goods, all_chunks}
 use Rattle.xet_service.proofs.PlanRuns.{same_terms, same_offset}
@@ -93,6 +93,8 @@ fixed_below w CheckReadable n lt = refl
 fixed_below w (InsertRandomXorb seed count size) n lt = refl
 fixed_below w (FileSize file) n lt = refl
 fixed_below w (FileData file range) n lt = refl
+fixed_below w (Batch files) n lt = refl
+fixed_below w (InsertLazyFile terms size) n lt = refl
 
 -- ---- one step
 
@@ -367,6 +369,9 @@ module _ (facts : GoodFacts) (m : Content) where
       command_steps (InsertsSeeded w.state.store seed count size) Random m w (InsertRandomXorb seed count size) reply new (λ x n b wire note e. absurd cc) good fixes (λ a k d s. inserts_sound w.state.store k seed count size a d s) h
   act_steps w at reply new good agree (FileSize file) fixes h = question_steps Size (file_size w.state.store file) m w (FileSize file) reply new (λ x n b wire note e. absurd cc) good fixes h
   act_steps w at reply new good agree (FileData file range) fixes h = question_steps Data (file_data w.state.store file range) m w (FileData file range) reply new (λ x n b wire note e. absurd cc) good fixes h
+  act_steps w at reply new good agree (Batch files) fixes h = question_steps batch_reply h.replies.answer m w (Batch files) reply new (λ x n b wire note e. absurd cc) good fixes (batch_asked w.state at files (outcome_of reply) new.state h)
+  act_steps w at reply new good agree (InsertLazyFile terms size) fixes h =
+      command_steps (InsertsLazy w.state.store terms size) lazy_reply m w (InsertLazyFile terms size) reply new (λ x n b wire note e. absurd cc) good fixes (λ a k d s. lazy_sound w.state.store k terms size a d s) h
 
   -- a step from good reads leaves good reads, and finishes a read only with its fixed bytes
   pub event_steps : (e : Event) → IsStep e → AgreesWith m e.before.state.store → Goods m e.before → Steps m e.reply e.after

@@ -9,7 +9,7 @@ use Rattle.xet_types.specs.declared.range._F.{_F}
 use Rattle.xet_store.specs.TermData.{is_expired}
 use Rattle.xet_service.specs.declared.step.PlanVersion.{PlanVersion}
 use Rattle.xet_service.specs.declared.step.Act.{Act}
-use Rattle.xet_service.specs.declared.step.Act.TheVariants.{UploadXorb, UploadShard, Plan, Fetch, Abandon, HideFile, DeleteShard, DeleteXorb, SetExpiration, SetMaxRanges, FileSize, FileData, SetDedupExpiration, DedupQuery, RemoveDedup, ListXorbs, ListShards, ListFiles, CheckIntegrity, CheckReachable, CheckReadable, InsertRandomXorb}
+use Rattle.xet_service.specs.declared.step.Act.TheVariants.{UploadXorb, UploadShard, Plan, Fetch, Abandon, HideFile, DeleteShard, DeleteXorb, SetExpiration, SetMaxRanges, FileSize, FileData, SetDedupExpiration, DedupQuery, RemoveDedup, ListXorbs, ListShards, ListFiles, CheckIntegrity, CheckReachable, CheckReadable, InsertRandomXorb, Batch, InsertLazyFile}
 use Rattle.xet_service.specs.declared.reply.PlannedLink.{PlannedLink}
 use Rattle.xet_service.specs.declared.reply.Reply.{Reply}
 use Rattle.xet_service.specs.declared.read.OpenRead.{OpenRead}
@@ -113,3 +113,5 @@ module _ (old : State) (at : ℕ) (result : Result Reply Refusal) (new : State) 
   stays (InsertRandomXorb seed count size) other h = same_reads h.rest
   stays (FileSize file) other h = by_outcome _ found h
   stays (FileData file range) other h = by_outcome _ found h
+  stays (Batch files) other h = subst IsIn (sym (ap (λ (s : State). s.reads) h.same)) found
+  stays (InsertLazyFile terms size) other h = same_reads h.rest

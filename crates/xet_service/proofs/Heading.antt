@@ -9,12 +9,14 @@ use Rattle.xet_service.proofs.Facts.{plan_facts, good_facts}
 use Rattle.xet_service.proofs.Keeping.{keeps_chain, order_chain}
 use Rattle.xet_service.proofs.Finishing.{finishes, none_good}
 use Rattle.xet_service.proofs.Serviced.{run_succeeds}
+use Rattle.xet_service.proofs.Readable.{readable_serve}
 
 pub headline : (start : World) (events : List Event) (end : World) → Chain start events end → Headline start events
 headline start events end chain = record {
   keeps = keeps_chain plan_facts start events end chain;
   finishes = λ m valid. finishes good_facts start events end chain m valid.none_open valid.agreed;
   succeeds = λ m valid. run_succeeds m start events end chain valid.agreed (none_good m start valid.none_open);
+  readable = readable_serve start events end chain;
 }
 
 ran_keeps : (old : State) (faults : ℕ) (steps : List Step) (before after : List Reply) (new : State) (faults_after : ℕ) → Ran old faults steps before after new faults_after → RanKeeping old faults steps before after new faults_after

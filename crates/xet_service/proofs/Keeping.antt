@@ -6,7 +6,8 @@ use Rattle.std.specs.FinMap.{get, get-empty}
 use Rattle.xet_types.specs.declared.error.Refusal.{Refusal}
 use Rattle.xet_types.specs.declared.error.Refusal.TheVariants.{FormatError, InvalidRange, InvalidArguments, FileNotFound, XORBNotFound, PresignedUrlExpirationError, IOError, Other, InvalidKey, CacheError, HttpStatus}
 use Rattle.xet_service.specs.declared.reply.Reply.{Reply}
-use Rattle.xet_service.specs.declared.reply.Reply.TheVariants.{Uploaded, ShardTaken, NoPlan, Done, Planned, Fetched, Finished, NoShard, ShardBytes, Size, Data, Refused, Hashes, Files, Random}
+use Rattle.xet_service.specs.declared.reply.Reply.TheVariants.{Uploaded, ShardTaken, NoPlan, Done, Planned, Fetched, Finished, NoShard, ShardBytes, Size, Data, Refused, Hashes, Files, Random, Lazy}
+use Rattle.xet_service.specs.declared.reply.Reply.TheVariants as replies
 use Rattle.xet_service.specs.declared.step.Act.TheVariants.{Fetch}
 use Rattle.xet_service.specs.declared.read.OpenRead.{OpenRead}
 use Rattle.xet_service.specs.World.{State, Reads, IsInOrder}
@@ -37,6 +38,8 @@ reply_is (Files fs) x e = cc
 reply_is (Random h) x e = cc
 reply_is (Size n) x e = cc
 reply_is (Data b) x e = cc
+reply_is (replies.Batch files links) x e = cc
+reply_is (Lazy f n) x e = cc
 reply_is (Refused why) x e = absurd cc
 
 pub refusal_is : (r : Reply) (why : Refusal) → outcome_of r ≡ err_why why → r ≡ Refused why
@@ -54,6 +57,8 @@ refusal_is (Files fs) x e = absurd cc
 refusal_is (Random h) x e = absurd cc
 refusal_is (Size n) x e = absurd cc
 refusal_is (Data b) x e = absurd cc
+refusal_is (replies.Batch files links) x e = absurd cc
+refusal_is (Lazy f n) x e = absurd cc
 refusal_is (Refused why) x e = cc
 
 -- ---- a step that was done

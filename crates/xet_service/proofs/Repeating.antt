@@ -3,7 +3,8 @@ use Rattle.std.proofs.Common.{◌≡◌, ◌∙◌, inl, inr, List, [], ◌∷�
 use Rattle.std.specs.List.{AllByRecursion}
 use Rattle.xet_service.specs.declared.step.Step.{Step}
 use Rattle.xet_service.specs.declared.reply.Reply.{Reply}
-use Rattle.xet_service.specs.declared.reply.Reply.TheVariants.{Uploaded, ShardTaken, NoPlan, Done, Planned, Fetched, Finished, NoShard, ShardBytes, Size, Data, Refused, Hashes, Files, Random}
+use Rattle.xet_service.specs.declared.reply.Reply.TheVariants.{Uploaded, ShardTaken, NoPlan, Done, Planned, Fetched, Finished, NoShard, ShardBytes, Size, Data, Refused, Hashes, Files, Random, Lazy}
+use Rattle.xet_service.specs.declared.reply.Reply.TheVariants as replies
 use Rattle.xet_service.specs.World.{State}
 use Rattle.xet_service.specs.Steps.{Acts}
 use Rattle.xet_service.specs.Runs.{World, world, Event, IsStep, Chain, outcome_of, step_of, reply_of}
@@ -26,6 +27,8 @@ outcome_same r (Files fs) e = reply_is r (Files fs) e
 outcome_same r (Random h) e = reply_is r (Random h) e
 outcome_same r (Size n) e = reply_is r (Size n) e
 outcome_same r (Data b) e = reply_is r (Data b) e
+outcome_same r (replies.Batch files links) e = reply_is r (replies.Batch files links) e
+outcome_same r (Lazy f n) e = reply_is r (Lazy f n) e
 outcome_same r (Refused why) e = refusal_is r why e
 
 -- a step in which the outside doesn't fail was done

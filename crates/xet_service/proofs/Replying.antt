@@ -10,7 +10,8 @@ use Rattle.xet_plan.specs.Footers.{FailsOnlyByFault}
 use Rattle.xet_store.specs.Refusals.{RefusedBy, IsRefused}
 use Rattle.xet_service.specs.declared.step.Step.{Step}
 use Rattle.xet_service.specs.declared.reply.Reply.{Reply}
-use Rattle.xet_service.specs.declared.reply.Reply.TheVariants.{Uploaded, ShardTaken, NoPlan, Done, Planned, Fetched, Finished, NoShard, ShardBytes, Size, Data, Refused, Hashes, Files, Random}
+use Rattle.xet_service.specs.declared.reply.Reply.TheVariants.{Uploaded, ShardTaken, NoPlan, Done, Planned, Fetched, Finished, NoShard, ShardBytes, Size, Data, Refused, Hashes, Files, Random, Lazy}
+use Rattle.xet_service.specs.declared.reply.Reply.TheVariants as replies
 use Rattle.xet_service.specs.World.{State}
 use Rattle.xet_service.specs.Steps.{Acts, Does, DoesErr}
 use Rattle.xet_service.specs.Causes.{IsAsked}
@@ -34,6 +35,8 @@ answer_is (Files fs) h = refl
 answer_is (Random hash) h = refl
 answer_is (Size n) h = refl
 answer_is (Data b) h = refl
+answer_is (replies.Batch files links) h = refl
+answer_is (Lazy f n) h = refl
 
 -- only the outside's failure is told so
 pub failure_is : (e : ClientError) → refusal_of e ≡ Some IOError → e ≡ errors.IOError

@@ -13,13 +13,13 @@ use Rattle.xet_shard.specs.declared.listing.Segment.{Segment}
 use Rattle.xet_plan.specs.Places.{first_fault}
 use Rattle.xet_plan.specs.declared.place.Reach.{Reach}
 use Rattle.xet_plan.specs.declared.place.Reach.TheVariants.{Within}
-use Rattle.xet_plan.specs.FileBytes.{Content}
+use Rattle.xet_plan.specs.FileBytes.{Content, file_bytes as bytes_within}
 use Rattle.xet_plan.specs.Plans.{PlanModel}
-use Rattle.xet_store.specs.StoreModel.{known_of}
+use Rattle.xet_store.specs.StoreModel.{known_of, content_of, IsSound}
 use Rattle.xet_store.specs.Plans.{Serves, PlansListed, PlansReached, PlansWithin}
 use Rattle.xet_store.specs.Responses.{response_by}
 use Rattle.xet_service.specs.declared.step.Act.{Act}
-use Rattle.xet_service.specs.declared.step.Act.TheVariants.{UploadXorb, UploadShard, Plan, Fetch, Abandon, HideFile, DeleteShard, DeleteXorb, SetExpiration, SetMaxRanges, FileSize, FileData, SetDedupExpiration, DedupQuery, RemoveDedup, ListXorbs, ListShards, ListFiles, CheckIntegrity, CheckReachable, CheckReadable, InsertRandomXorb}
+use Rattle.xet_service.specs.declared.step.Act.TheVariants.{UploadXorb, UploadShard, Plan, Fetch, Abandon, HideFile, DeleteShard, DeleteXorb, SetExpiration, SetMaxRanges, FileSize, FileData, SetDedupExpiration, DedupQuery, RemoveDedup, ListXorbs, ListShards, ListFiles, CheckIntegrity, CheckReachable, CheckReadable, InsertRandomXorb, Batch, InsertLazyFile}
 use Rattle.xet_service.specs.declared.step.PlanVersion.{PlanVersion}
 use Rattle.xet_service.specs.declared.reply.PlannedLink.{PlannedLink}
 use Rattle.xet_service.specs.declared.reply.Reply.TheVariants.{Planned}
@@ -28,7 +28,7 @@ use Rattle.xet_service.specs.World.{State}
 use Rattle.xet_service.specs.Steps.{Outcome, refuses, opened, open_links, plan_step, read_of, PlansBy, Acts}
 use Rattle.xet_service.specs.Runs.{World, Event, IsStep, Chain, outcome_of}
 use Rattle.xet_service.specs.Validity.{AgreesWith, IsAgreed, IsServed, IsFetched, ValidAt, IsValidRest, left_after, count_true, Answered, AnsweredAt, AnsweredRest, all_left, ReadsSucceed}
-use Rattle.xet_service.proofs.Goods.{GoodAt, Goods}
+use Rattle.xet_service.proofs.Goods.{GoodRead, GoodAt, Goods}
 use Rattle.xet_service.proofs.Finishing.{GoodFacts, event_steps}
 use Rattle.xet_service.proofs.Succeeds.{IsOpen, Follows, fetch_goes, is_open, hash_of, link_hash, put_here}
 use Rattle.xet_types.specs.Records.{SecondPlan}
@@ -109,6 +109,8 @@ module _ (m : Content) (e : Event) (n stamp : ℕ) (links : List PlannedLink) (l
   goes_by (InsertRandomXorb seed count size) act_is valid = (tt, other_goes _ act_is tt)
   goes_by (FileSize file) act_is valid = (tt, other_goes _ act_is tt)
   goes_by (FileData file range) act_is valid = (tt, other_goes _ act_is tt)
+  goes_by (Batch files) act_is valid = (tt, other_goes _ act_is tt)
+  goes_by (InsertLazyFile terms size) act_is valid = (tt, other_goes _ act_is tt)
 
 -- the steps of a followed read succeed
 pub rest_goes : (facts : GoodFacts) (m : Content) (n stamp : ℕ) (links : List PlannedLink) (left : List Bool) (w : World) (es : List Event) (end : World) → Chain w es end → IsAgreed m es → Goods m w → Follows w.state n stamp links left
@@ -123,13 +125,15 @@ rest_goes facts m n stamp links left w (e ∷ es) end chain agree good follows v
 
 -- ---- a served plan opens a read
 
-pub record Opened (version : PlanVersion) (e : Event) : Type 0 where
+pub record Opened (version : PlanVersion) (e : Event) (file : List ℕ) (range : Option (Range ℕ _F)) (served : IsServed e file range) : Type 0 where
   pub offset : ℕ
   pub terms : List XorbReconstructionTerm
   pub links : List PlannedLink
   pub reply : e.reply ≡ Planned e.before.state.next version offset terms links
   pub some : 0 < length links
   pub open_it : IsOpen e.after.state e.before.state.next e.step.at links (all_left links)
+  -- over any map that gives the store's xorbs
+  pub good : (m : Content) → AgreesWith m e.before.state.store → GoodRead m (bytes_within (content_of e.before.state.store) served.clip served.segments) open_it.read.reader
 
 fresh_mask : (n : ℕ) (ls : List Linked) (hs : List HeldTerm) → map is_open (with_terms n (map fresh_of ls) hs) ≡ all_left (map link_of ls)
 fresh_mask n [] hs = refl
@@ -149,13 +153,13 @@ module _ (e : Event) (version : PlanVersion) (file : List ℕ) (range : Option (
   abbrev answer : PlanModel → SecondPlan
   answer plan = answer_of version max e.step.at plan
 
-  from_links : (plan : PlanModel) → Serves (known_of e.before.state.store) served.segments range served.clip plan → (ls : List PlannedLink) → answered_links version max e.step.at plan ≡ ls
-      → open_links e.before.state version (answer plan) range e.step.at ls ≡ (outcome_of e.reply, e.after.state) → Opened version e
-  from_links plan serves [] links h =
+  from_links : IsSound e.before.state.store → (plan : PlanModel) → Serves (known_of e.before.state.store) served.segments range served.clip plan → (ls : List PlannedLink) → answered_links version max e.step.at plan ≡ ls
+      → open_links e.before.state version (answer plan) range e.step.at ls ≡ (outcome_of e.reply, e.after.state) → Opened version e file range served
+  from_links sound plan serves [] links h =
       let some : 0 < length (answered_links version max e.step.at plan) = planned_some version max e.step.at serves.planned range served.reached served.some in
       let none : length (answered_links version max e.step.at plan) ≡ 0 = ap (λ (ls : List PlannedLink). length ls) links in
       absurd (omega (arith, some, none))
-  from_links plan serves (l ∷ ls) links h =
+  from_links sound plan serves (l ∷ ls) links h =
       let s = e.before.state in
       let at = e.step.at in
       let second = answer plan in
@@ -177,29 +181,30 @@ module _ (e : Event) (version : PlanVersion) (file : List ℕ) (range : Option (
           mask = ap (λ (xs : List ReadLink). map is_open (with_terms 0 xs (plan_terms second))) fresh ∙ fresh_mask 0 ks (plan_terms second) ∙ ap all_left links_are;
           hashes = ap (λ (xs : List ReadLink). map hash_of (with_terms 0 xs (plan_terms second))) fresh ∙ fresh_hashes 0 ks (plan_terms second) ∙ ap (map link_hash) links_are;
         };
+        good = λ m agree. good_facts.planned_good version max s.store served.segments range served.clip plan at m agree sound serves (planned_some version max at serves.planned range served.reached served.some);
       }
 
   faulty : (x : Refusal) → first_fault (known_of e.before.state.store) served.clip served.segments ≡ Some x → ⊥
   faulty x h = let k : ◌≡◌ {A = Option Refusal} None (Some x) = sym served.agree ∙ h in absurd cc
 
-  from_answer : (r : Result (Option PlanModel) Refusal) → PlansWithin (known_of e.before.state.store) served.segments range served.clip r → plan_step e.before.state version range e.step.at (response_by answer r) ≡ (outcome_of e.reply, e.after.state) → Opened version e
-  from_answer (Ok None) h step = absurd h
-  from_answer (Ok (Some plan)) h step =
-      from_links plan h (answered_links version max e.step.at plan) refl
+  from_answer : IsSound e.before.state.store → (r : Result (Option PlanModel) Refusal) → PlansWithin (known_of e.before.state.store) served.segments range served.clip r → plan_step e.before.state version range e.step.at (response_by answer r) ≡ (outcome_of e.reply, e.after.state) → Opened version e file range served
+  from_answer sound (Ok None) h step = absurd h
+  from_answer sound (Ok (Some plan)) h step =
+      from_links sound plan h (answered_links version max e.step.at plan) refl
       (subst (λ (b : Bool). cond b (open_links e.before.state version (answer plan) range e.step.at (answered_links version max e.step.at plan)) (refuses e.before.state InvalidArguments) ≡ (outcome_of e.reply, e.after.state)) (plan_facts.opens version max e.before.state.store served.segments range served.clip plan e.step.at h)
       (subst (λ (b : Bool). cond b (refuses e.before.state InvalidArguments) (open_plan_free e.before.state version (answer plan) range e.step.at) ≡ (outcome_of e.reply, e.after.state)) served.numbered step))
-  from_answer (Err (XORBNotFound hash)) h step = absurd (faulty (XORBNotFound hash) h)
-  from_answer (Err (FormatError faults.Segment)) h step = absurd (faulty (FormatError faults.Segment) h)
-  from_answer (Err why) h step = absurd h
+  from_answer sound (Err (XORBNotFound hash)) h step = absurd (faulty (XORBNotFound hash) h)
+  from_answer sound (Err (FormatError faults.Segment)) h step = absurd (faulty (FormatError faults.Segment) h)
+  from_answer sound (Err why) h step = absurd h
 
-  served_opens : IsStep e → e.step.act ≡ Plan version file range → Opened version e
-  served_opens is act_is = elim is.steps.does as (λ _. Opened version e) [
+  pub served_opens : IsStep e → e.step.act ≡ Plan version file range → Opened version e file range served
+  served_opens is act_is = elim is.steps.does as (λ _. Opened version e file range served) [
     | inl d ↦
         (let s = e.before.state in
         let h : PlansBy s version file range e.step.at (outcome_of e.reply) e.after.state = subst (λ (a : Act). Acts s e.step.at a (outcome_of e.reply) e.after.state) act_is d in
         let listed : PlansListed (known_of s.store) range (Some served.segments) h.responds.answer = subst (λ (o : Option (List Segment)). PlansListed (known_of s.store) range o h.responds.answer) served.live h.responds.plans in
         let within : PlansReached (known_of s.store) served.segments range (Within served.clip.start served.clip.end) h.responds.answer = subst (λ (r : Reach). PlansReached (known_of s.store) served.segments range r h.responds.answer) served.reached listed in
-        from_answer h.responds.answer within (ap (plan_step s version range e.step.at) (sym h.responds.response) ∙ h.step))
+        from_answer h.responds.sound h.responds.answer within (ap (plan_step s version range e.step.at) (sym h.responds.response) ∙ h.step))
     | inr f ↦ absurd (served.quiet f.rose)
   ]
 

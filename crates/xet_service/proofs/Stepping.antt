@@ -22,9 +22,10 @@ use Rattle.xet_store.specs.Questions.{file_size, file_data, dedup_answer, xorb_h
 use Rattle.xet_store.specs.Lists.{shard_hashes, file_entries}
 use Rattle.xet_store.specs.Checks.{checked, integrity, reachable, readable}
 use Rattle.xet_store.specs.Plans.{Serves}
+use Rattle.xet_store.specs.Batches.{RespondsToAll}
 use Rattle.xet_store.specs.Responses.{response_by}
 use Rattle.xet_service.specs.declared.step.Act.{Act}
-use Rattle.xet_service.specs.declared.step.Act.TheVariants.{UploadXorb, UploadShard, Plan, Fetch, Abandon, HideFile, DeleteShard, DeleteXorb, SetExpiration, SetMaxRanges, FileSize, FileData, SetDedupExpiration, DedupQuery, RemoveDedup, ListXorbs, ListShards, ListFiles, CheckIntegrity, CheckReachable, CheckReadable, InsertRandomXorb}
+use Rattle.xet_service.specs.declared.step.Act.TheVariants.{UploadXorb, UploadShard, Plan, Fetch, Abandon, HideFile, DeleteShard, DeleteXorb, SetExpiration, SetMaxRanges, FileSize, FileData, SetDedupExpiration, DedupQuery, RemoveDedup, ListXorbs, ListShards, ListFiles, CheckIntegrity, CheckReachable, CheckReadable, InsertRandomXorb, Batch, InsertLazyFile}
 use Rattle.xet_service.specs.declared.step.PlanVersion.{PlanVersion}
 use Rattle.xet_service.specs.declared.reply.PlannedLink.{PlannedLink}
 use Rattle.xet_service.specs.declared.reply.Reply.{Reply}
@@ -36,14 +37,14 @@ use Rattle.xet_service.specs.Links.{answer_of}
 use Rattle.xet_service.specs.Reading.{Reading, left_link, count_left, take_link, AreAllWhole, HasParts, Brings as BodyBrings, BringsTo, Gives, Accepts, bytes_read}
 use Rattle.xet_service.specs.ReadingPlans.{can_open, reading_of}
 use Rattle.xet_service.specs.World.{State, Reads, IsOrderly, IsInOrder}
-use Rattle.xet_service.specs.Steps.{Outcome, ReadsOutcome, refuses, keeps_reads, no_note, used_up, read_of, opened, open_links, open_plan, plan_step, fetch_done, fetch_taken, with_reader, asked_bytes, TakesBody, FetchesBody, FetchesSent, FetchesIf, FetchesLink, FetchesRead, Fetches, abandon_read, abandon_step, map_ok, asks, was_done, Commands, PlansBy, Acts, shard_reply}
+use Rattle.xet_service.specs.Steps.{Outcome, ReadsOutcome, refuses, keeps_reads, no_note, used_up, read_of, opened, open_links, open_plan, plan_step, fetch_done, fetch_taken, with_reader, asked_bytes, TakesBody, FetchesBody, FetchesSent, FetchesIf, FetchesLink, FetchesRead, Fetches, abandon_read, abandon_step, map_ok, asks, was_done, Commands, PlansBy, Acts, shard_reply, batch_reply, lazy_reply}
 use Rattle.xet_service.specs.Causes.{HasCause, PlansNothing, IsLeft, FetchesLeft, FetchesStored, FetchesBytes, SetsNone}
 use Rattle.xet_service.specs.Headline.{HoldsMet, Brings}
 use Rattle.xet_service.proofs.Planned.{answered_links, covers, once}
 use Rattle.xet_service.proofs.Left.{by_put, by_gone, other_left, some_left, ranges_stay, left_orderly}
 use Rattle.xet_service.proofs.PlanRuns.{same_terms, same_offset}
 use Rattle.xet_service.proofs.Parted.{parts_once, written_parts}
-use Rattle.xet_service.proofs.Causing.{Reached, Says, plan_says, xorb_refused, shard_refused, never_refused, shard_kept, size_refused, data_refused, max_kept, check_refused, generated_refused}
+use Rattle.xet_service.proofs.Causing.{Reached, Says, plan_says, xorb_refused, shard_refused, never_refused, shard_kept, size_refused, data_refused, max_kept, check_refused, generated_refused, batch_refused, batch_asked, lazy_refused}
 
 abbrev pub ok_reply : Reply → Result Reply Refusal
 ok_reply reply = Ok reply
@@ -406,7 +407,7 @@ module _ (s : State) (at read link : ℕ) (in_order : IsInOrder s) where
     stored_kept : (o : Option Chunks) (a : Result Body Refusal) (result : Result Reply Refusal) (reads : Reads) → IsOrderly l → is_expired at r.stamp s.store.expiration ≡ false → stored s.store l.hash ≡ o
         → SendsOf l.hash (asked_bytes l.ranges) o a → FetchesBody s.reads read link r a result reads → FetchKept (result, reads)
     stored_kept None a result reads order fresh e sent h =
-        subst FetchKept (subst (λ (x : Result Body Refusal). FetchesBody s.reads read link r x result reads) sent h) (left_refused (XORBNotFound l.hash) here (inr (inr (record { fetch = fetched; fresh = fresh; hash_is = refl; unstored = e }))))
+        subst FetchKept (subst (λ (x : Result Body Refusal). FetchesBody s.reads read link r x result reads) sent h) (left_refused (XORBNotFound l.hash) here (inr (inr (inl (record { fetch = fetched; fresh = fresh; hash_is = refl; unstored = e })))))
     stored_kept (Some chunks) a result reads order fresh e sent h = sent_kept order fresh chunks e a result reads sent h
 
     aged_kept : (b : Bool) (result : Result Reply Refusal) (reads : Reads) → is_expired at r.stamp s.store.expiration ≡ b → FetchesIf s.store s.reads read link r l b result reads → FetchKept (result, reads)
@@ -505,3 +506,8 @@ act_kept facts s at (FileSize file) result t h o =
     question_kept Size s at (FileSize file) result t o (λ x e. cc) (λ version file' range e. cc) (λ read link e. cc) (file_size s.store file) h (λ why e. size_refused s at file why e)
 act_kept facts s at (FileData file range) result t h o =
     question_kept Data s at (FileData file range) result t o (λ x e. cc) (λ version file' range' e. cc) (λ read link e. cc) (file_data s.store file range) h (λ why e. data_refused s at file range why e)
+act_kept facts s at (Batch files) result t h o =
+    question_kept batch_reply s at (Batch files) result t o (λ x e. cc) (λ version file range e. cc) (λ read link e. cc) h.replies.answer (batch_asked s at files result t h)
+    (λ why e. batch_refused s at files why (subst (RespondsToAll s.store files at) e h.replies.responds))
+act_kept facts s at (InsertLazyFile terms size) result t h o =
+    command_kept lazy_reply s at (InsertLazyFile terms size) result t o (λ x e. cc) (λ version file range e. cc) (λ read link e. cc) _ h (λ why d. lazy_refused s at terms size t.store why d)

@@ -1,5 +1,6 @@
 -- Why a step is answered as it is.
-use Rattle.std.specs.Prelude.{◌≡◌, ℕ, true, false, List, map, ◌⊎◌, Option, Some, None}
+use Rattle.std.specs.Prelude.{◌≡◌, ℕ, true, false, List, ◌∷◌, ◌++◌, map, ◌⊎◌, Option, Some, None}
+use Rattle.std.specs.List.{AllByRecursion}
 use Rattle.std.specs.FinMap.{get}
 use Rattle.xet_types.specs.declared.error.Refusal.{Refusal}
 use Rattle.xet_types.specs.declared.error.Refusal.TheVariants.{FormatError, InvalidRange, InvalidArguments, FileNotFound, XORBNotFound, PresignedUrlExpirationError, IOError, Other, InvalidKey, CacheError, HttpStatus}
@@ -13,16 +14,17 @@ use Rattle.xet_shard.specs.Values.{size_of}
 use Rattle.xet_xorb.specs.ChunkLists.{IsWellFormed}
 use Rattle.xet_xorb.specs.XorbBytes.{IsXorbText}
 use Rattle.xet_xorb.specs.Generated.{seeded_chunks}
-use Rattle.xet_plan.specs.Places.{Interval, reach, first_fault}
+use Rattle.xet_plan.specs.Places.{Interval, interval, reach, first_fault}
+use Rattle.xet_generated.specs.Terms.{Term, CanGenerate}
 use Rattle.xet_plan.specs.declared.place.Reach.TheVariants.{Past, Reversed, Within}
-use Rattle.xet_store.specs.StoreModel.{Chunks, stored, listing, known_of}
+use Rattle.xet_store.specs.StoreModel.{StoreModel, Chunks, stored, listing, known_of}
 use Rattle.xet_store.specs.StoreModel.{shard_named}
 use Rattle.xet_store.specs.Commands.{IsMisnamed}
 use Rattle.xet_store.specs.Checks.{integrity, reachable, readable}
 use Rattle.xet_store.specs.Questions.{asked}
 use Rattle.xet_store.specs.TermData.{is_expired}
 use Rattle.xet_service.specs.declared.step.Act.{Act}
-use Rattle.xet_service.specs.declared.step.Act.TheVariants.{UploadXorb, UploadShard, Plan, Fetch, Abandon, DeleteShard, SetMaxRanges, FileSize, FileData, CheckIntegrity, CheckReachable, CheckReadable, InsertRandomXorb}
+use Rattle.xet_service.specs.declared.step.Act.TheVariants.{UploadXorb, UploadShard, Plan, Fetch, Abandon, DeleteShard, SetMaxRanges, FileSize, FileData, CheckIntegrity, CheckReachable, CheckReadable, InsertRandomXorb, Batch, InsertLazyFile}
 use Rattle.xet_service.specs.declared.step.PlanVersion.{PlanVersion}
 use Rattle.xet_service.specs.declared.read.OpenRead.{OpenRead}
 use Rattle.xet_service.specs.declared.reader.link.ReadLink.{ReadLink}
@@ -62,6 +64,13 @@ pub record GeneratesNothing (act : Act) : Type 0 where
   pub size : ℕ
   pub is : act ≡ InsertRandomXorb seed count size
   pub misshapen : IsWellFormed (seeded_chunks seed count size) → ⊥
+
+-- a generated file of terms that aren't those of a file
+pub record GeneratesNoFile (act : Act) : Type 0 where
+  pub terms : List Term
+  pub size : ℕ
+  pub is : act ≡ InsertLazyFile terms size
+  pub misshapen : CanGenerate terms size → ⊥
 
 -- ---- deletions
 
@@ -151,6 +160,21 @@ pub record PlansNothing (s : State) (act : Act) : Type 0 where
   pub range : Option (Range ℕ _F)
   pub is : act ≡ Plan version file range
   pub nothing : (listing s.store file ≡ None) ⊎ ((segments : List Segment) × (listing s.store file ≡ Some segments) × (reach (size_of segments) range ≡ Past))
+
+-- where the file is live, none of its segments has a fault
+abbrev pub HasNoFault : StoreModel → List ℕ → Type 0
+HasNoFault store file = (segments : List Segment) → listing store file ≡ Some segments → first_fault (known_of store) (interval 0 (size_of segments)) segments ≡ None
+
+-- plans of several files, the first of which with a fault is a live one whose first fault is this
+pub record BatchesFaulty (s : State) (act : Act) (why : Refusal) : Type 0 where
+  pub before : List (List ℕ)
+  pub file : List ℕ
+  pub after : List (List ℕ)
+  pub is : act ≡ Batch (before ++ file ∷ after)
+  pub faultless : AllByRecursion (HasNoFault s.store) before
+  pub segments : List Segment
+  pub live : listing s.store file ≡ Some segments
+  pub fault : first_fault (known_of s.store) (interval 0 (size_of segments)) segments ≡ Some why
 
 -- ---- open reads
 
@@ -244,13 +268,13 @@ IsAsked s at act = Unit {0}
 abbrev pub HasCause : State → ℕ → Act → Refusal → Type 0
 HasCause s at act (FormatError faults.Xorb) = NoXorb s act ⊎ FetchesBroken s at act
 HasCause s at act (FormatError faults.Shard) = NoShard act
-HasCause s at act (FormatError faults.Segment) = PlansFaulty s act (FormatError faults.Segment) ⊎ AsksFaulty s act (FormatError faults.Segment)
+HasCause s at act (FormatError faults.Segment) = PlansFaulty s act (FormatError faults.Segment) ⊎ (AsksFaulty s act (FormatError faults.Segment) ⊎ BatchesFaulty s act (FormatError faults.Segment))
 HasCause s at act (FormatError faults.Table) = ⊥
 HasCause s at act (FormatError faults.Body) = FetchesMisfit s at act
 HasCause s at act InvalidRange = PlansReversed s act ⊎ (FetchesPast s at act ⊎ AsksPast s act)
-HasCause s at act InvalidArguments = PlansUsedUp s act ⊎ (FetchesNothing s act ⊎ (AbandonsNothing s act ⊎ (SetsNone act ⊎ GeneratesNothing act)))
+HasCause s at act InvalidArguments = PlansUsedUp s act ⊎ (FetchesNothing s act ⊎ (AbandonsNothing s act ⊎ (SetsNone act ⊎ (GeneratesNothing act ⊎ GeneratesNoFile act))))
 HasCause s at act (FileNotFound hash) = AsksNothing s act hash
-HasCause s at act (XORBNotFound hash) = PlansFaulty s act (XORBNotFound hash) ⊎ (AsksFaulty s act (XORBNotFound hash) ⊎ FetchesUnstored s at act hash)
+HasCause s at act (XORBNotFound hash) = PlansFaulty s act (XORBNotFound hash) ⊎ (AsksFaulty s act (XORBNotFound hash) ⊎ (FetchesUnstored s at act hash ⊎ BatchesFaulty s act (XORBNotFound hash)))
 HasCause s at act PresignedUrlExpirationError = FetchesLate s at act
 HasCause s at act IOError = ⊥
 HasCause s at act Other = FalseName s act ⊎ (DeletesNothing s act ⊎ FailsCheck s act)

@@ -31,6 +31,7 @@ use Rattle.xet_service.specs.World.{State, IsInOrder}
 use Rattle.xet_service.specs.Runs.{World, world, Event, IsRun}
 use Rattle.xet_service.specs.Causes.{HasCause, PlansNothing, IsLeft}
 use Rattle.xet_service.specs.Validity.{IsValidList, ReadsSucceed}
+use Rattle.xet_service.specs.Readable.{ReadableServe}
 
 -- ---- links
 
@@ -119,11 +120,13 @@ pub record Keeps (e : Event) : Type 0 where
 
 -- ---- the headline
 
--- Of a run's events: the second to fourth sentence for every list from reads in order, the first and the fifth for every valid list.
+-- Of a run's events: the second to fourth sentence and what readable files give for every list from reads in order, the first and the fifth
+-- for every valid list.
 pub record Headline (start : World) (events : List Event) : Type 0 where
   pub keeps : IsInOrder start.state → AllByRecursion Keeps events
   pub finishes : (m : Content) → IsValidList m start.state events → AllByRecursion Finishes events
   pub succeeds : (m : Content) → IsValidList m start.state events → ReadsSucceed events
+  pub readable : IsInOrder start.state → ReadableServe events
 
 -- A run of these steps whose replies were appended, from a state and a count of faults to others, that keeps the headline.
 pub record RanKeeping (old : State) (faults : ℕ) (steps : List Step) (before after : List Reply) (new : State) (faults_after : ℕ) : Type 0 where

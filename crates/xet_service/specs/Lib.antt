@@ -15,3 +15,4 @@ pub mod ReadingOrder
 pub mod ReadingSteps
 pub mod Gathering
 pub mod ReadingParts
+pub mod Readable

@@ -6,7 +6,7 @@ use Rattle.xet_types.specs.declared.error.Refusal.TheVariants.{FormatError, Inva
 use Rattle.xet_types.specs.declared.error.FormatFault.TheVariants as faults
 use Rattle.xet_store.specs.Refusals.{OfOutside, OfSetting, OfXorbUpload, OfShardUpload, OfShardDeletion, OfFileSize, OfPlan, OfFileData, OfListing, OfCheck, OfGenerated}
 use Rattle.xet_service.specs.declared.step.Act.{Act}
-use Rattle.xet_service.specs.declared.step.Act.TheVariants.{UploadXorb, UploadShard, Plan, Fetch, Abandon, HideFile, DeleteShard, DeleteXorb, SetExpiration, SetMaxRanges, FileSize, FileData, SetDedupExpiration, DedupQuery, RemoveDedup, ListXorbs, ListShards, ListFiles, CheckIntegrity, CheckReachable, CheckReadable, InsertRandomXorb}
+use Rattle.xet_service.specs.declared.step.Act.TheVariants.{UploadXorb, UploadShard, Plan, Fetch, Abandon, HideFile, DeleteShard, DeleteXorb, SetExpiration, SetMaxRanges, FileSize, FileData, SetDedupExpiration, DedupQuery, RemoveDedup, ListXorbs, ListShards, ListFiles, CheckIntegrity, CheckReachable, CheckReadable, InsertRandomXorb, Batch, InsertLazyFile}
 use Rattle.xet_service.specs.declared.reply.Reply.{Reply}
 use Rattle.xet_service.specs.declared.reply.Reply.TheVariants.{Refused}
 use Rattle.xet_service.specs.declared.read.OpenRead.{OpenRead}
@@ -62,6 +62,8 @@ OfAct CheckReadable why = OfCheck why
 OfAct (InsertRandomXorb seed count size) why = OfGenerated why
 OfAct (FileSize file) why = OfFileSize file why
 OfAct (FileData file range) why = OfFileData file why
+OfAct (Batch files) why = OfPlan why
+OfAct (InsertLazyFile terms size) why = OfGenerated why
 
 -- a reply that is no refusal
 abbrev pub IsAnswer : Reply → Type 0

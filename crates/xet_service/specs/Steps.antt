@@ -3,7 +3,7 @@ use Rattle.std.specs.Prelude.{◌≡◌, ℕ, zero, suc, ◌+◌, ◌==◌, Bool
 use Rattle.std.specs.Global.{Vec}
 use Rattle.std.specs.FinMap.{get, insert, remove}
 use Rattle.xet_types.specs.Ranges.{file_range_of}
-use Rattle.xet_types.specs.Records.{SecondPlan}
+use Rattle.xet_types.specs.Records.{SecondPlan, BatchPlan}
 use Rattle.xet_types.specs.declared.error.ClientError.{ClientError}
 use Rattle.xet_types.specs.declared.error.Refusal.{Refusal}
 use Rattle.xet_types.specs.declared.error.Refusal.TheVariants.{InvalidArguments, PresignedUrlExpirationError, IOError}
@@ -12,23 +12,26 @@ use Rattle.xet_types.specs.declared.range._F.{_F}
 use Rattle.xet_types.specs.declared.record.XorbRangeDescriptor.{XorbRangeDescriptor}
 use Rattle.xet_types.specs.Faults.{refusal_of}
 use Rattle.xet_bytes.specs.Pairs.{TwoHashes}
+use Rattle.xet_generated.specs.Contents.{FileModel}
 use Rattle.xet_store.specs.StoreModel.{StoreModel}
-use Rattle.xet_store.specs.Commands.{UploadsXorb, UploadsShard, Is, hide_file, delete_shard, delete_xorb, set_expiration, set_max_ranges, set_dedup_expiration, drop_dedup, InsertsSeeded}
+use Rattle.xet_store.specs.Commands.{UploadsXorb, UploadsShard, Is, hide_file, delete_shard, delete_xorb, set_expiration, set_max_ranges, set_dedup_expiration, drop_dedup, InsertsSeeded, InsertsLazy}
 use Rattle.xet_store.specs.Questions.{file_size, file_data, dedup_answer, xorb_hashes}
 use Rattle.xet_store.specs.Responses.{RespondsBy}
+use Rattle.xet_store.specs.Batches.{RespondsToAll}
 use Rattle.xet_store.specs.TermData.{is_expired}
 use Rattle.xet_store.specs.Lists.{shard_hashes, file_entries}
 use Rattle.xet_store.specs.Checks.{checked, integrity, reachable, readable}
 use Rattle.xet_service.specs.declared.step.Act.{Act}
-use Rattle.xet_service.specs.declared.step.Act.TheVariants.{UploadXorb, UploadShard, Plan, Fetch, Abandon, HideFile, DeleteShard, DeleteXorb, SetExpiration, SetMaxRanges, FileSize, FileData, SetDedupExpiration, DedupQuery, RemoveDedup, ListXorbs, ListShards, ListFiles, CheckIntegrity, CheckReachable, CheckReadable, InsertRandomXorb}
+use Rattle.xet_service.specs.declared.step.Act.TheVariants.{UploadXorb, UploadShard, Plan, Fetch, Abandon, HideFile, DeleteShard, DeleteXorb, SetExpiration, SetMaxRanges, FileSize, FileData, SetDedupExpiration, DedupQuery, RemoveDedup, ListXorbs, ListShards, ListFiles, CheckIntegrity, CheckReachable, CheckReadable, InsertRandomXorb, Batch, InsertLazyFile}
 use Rattle.xet_service.specs.declared.step.PlanVersion.{PlanVersion}
 use Rattle.xet_service.specs.declared.reply.CacheNote.{CacheNote}
 use Rattle.xet_service.specs.declared.reply.PlannedLink.{PlannedLink}
 use Rattle.xet_service.specs.declared.reply.Reply.{Reply}
-use Rattle.xet_service.specs.declared.reply.Reply.TheVariants.{Uploaded, ShardTaken, NoPlan, Done, Planned, Fetched, Finished, NoShard, ShardBytes, Size, Data, Hashes, Files, Random}
+use Rattle.xet_service.specs.declared.reply.Reply.TheVariants.{Uploaded, ShardTaken, NoPlan, Done, Planned, Fetched, Finished, NoShard, ShardBytes, Size, Data, Hashes, Files, Random, Lazy}
+use Rattle.xet_service.specs.declared.reply.Reply.TheVariants as replies
 use Rattle.xet_service.specs.declared.read.OpenRead.{OpenRead}
 use Rattle.xet_service.specs.declared.reader.link.ReadLink.{ReadLink}
-use Rattle.xet_service.specs.Links.{planned_links, answer_of}
+use Rattle.xet_service.specs.Links.{planned_links, batch_links, answer_of}
 use Rattle.xet_service.specs.Bodies.{Body, type_text, SendsStored}
 use Rattle.xet_service.specs.Reading.{Reading, left_link, count_left, Accepts, bytes_read}
 use Rattle.xet_service.specs.ReadingPlans.{can_open, reading_of}
@@ -74,6 +77,10 @@ hashes_reply v = Hashes v.items
 abbrev pub files_reply : Vec TwoHashes → Reply
 files_reply v = Files v.items
 
+-- a file's name, and how many bytes it has
+abbrev pub lazy_reply : FileModel → Reply
+lazy_reply file = Lazy file.file_hash (length file.content)
+
 -- the answer of a question is the reply
 abbrev pub asks : {T : Type 0} → (T → Reply) → State → Result T Refusal → Outcome
 asks f s answer = (map_ok f answer, s)
@@ -114,6 +121,23 @@ pub record PlansBy (old : State) (version : PlanVersion) (file : List ℕ) (rang
   pub answer : Result (Option SecondPlan) Refusal
   pub responds : RespondsBy (answer_of version old.store.max_ranges at) old.store file range answer
   pub step : plan_step old version range at answer ≡ (result, new)
+
+-- ---- plans of several files
+
+-- the terms of the files, and the links
+abbrev pub batch_reply : BatchPlan → Reply
+batch_reply batch = replies.Batch batch.files (batch_links batch)
+
+-- the store answers so, and its answer is the reply
+pub record RepliesToAll (store : StoreModel) (files : List (List ℕ)) (at : ℕ) (result : Result Reply Refusal) : Type 0 where
+  pub answer : Result BatchPlan Refusal
+  pub responds : RespondsToAll store files at answer
+  pub reply : result ≡ map_ok batch_reply answer
+
+-- and nothing changes
+pub record BatchesBy (old : State) (files : List (List ℕ)) (at : ℕ) (result : Result Reply Refusal) (new : State) : Type 0 where
+  pub replies : RepliesToAll old.store files at result
+  pub same : new ≡ old
 
 -- ---- fetches
 
@@ -211,6 +235,8 @@ Acts old at CheckReadable result new = asks was_done old (checked (readable old.
 Acts old at (InsertRandomXorb seed count size) result new = Commands (InsertsSeeded old.store seed count size) Random old result new
 Acts old at (FileSize file) result new = asks Size old (file_size old.store file) ≡ (result, new)
 Acts old at (FileData file range) result new = asks Data old (file_data old.store file range) ≡ (result, new)
+Acts old at (Batch files) result new = BatchesBy old files at result new
+Acts old at (InsertLazyFile terms size) result new = Commands (InsertsLazy old.store terms size) lazy_reply old result new
 
 -- ---- what the code owes
 

@@ -93,6 +93,19 @@ pub enum Reply {
     Size(u64),
     /// The file's bytes.
     Data(Octets),
+    /// The plans of the files that are live.
+    Batch {
+        /// The terms of each file, in order of its hash.
+        files: Items<(MerkleHash, Items<XorbReconstructionTerm>)>,
+        /// In order of xorb; those of a xorb as the asked files have them. Each has one range.
+        links: Items<PlannedLink>,
+    },
+    /// A generated file is stored.
+    Lazy {
+        file: MerkleHash,
+        /// How many bytes it has.
+        size: u64,
+    },
     /// Nothing was changed.
     Refused(Refusal),
 }

@@ -4,7 +4,7 @@ ghost use Rattle.std.specs.FinMap.{get, insert};
 ghost use Rattle.std.specs.FinMap as finmap;
 ghost use Rattle.xet_plan.specs.Footers.{FailsOnlyByFault};
 ghost use Rattle.xet_store.specs.StoreModel.{StoreModel};
-ghost use Rattle.xet_store.specs.Commands.{UploadsXorb, UploadsShard, InsertsSeeded};
+ghost use Rattle.xet_store.specs.Commands.{UploadsXorb, UploadsShard, InsertsSeeded, InsertsLazy};
 ghost use Rattle.xet_store.specs.Told.{Asks, Follows, Leaves};
 ghost use Rattle.xet_store.specs.TermData.{is_expired};
 ghost use Rattle.xet_store.specs.Responses.{RespondsBy};
@@ -14,12 +14,12 @@ ghost use Rattle.xet_service.specs.declared.reply.Reply.TheVariants.{Uploaded, S
 ghost use Rattle.xet_service.specs.declared.step.Act.TheVariants.{Fetch};
 ghost use Rattle.xet_service.specs.World.{state};
 ghost use Rattle.xet_service.specs.Causes.{IsAsked};
-ghost use Rattle.xet_service.specs.Steps.{Acts, Does, Fetches, PlansBy, map_ok, was_done, no_note, open_plan, abandon_step, asked_bytes, shard_reply, hashes_reply, files_reply};
+ghost use Rattle.xet_service.specs.Steps.{Acts, Does, Fetches, PlansBy, map_ok, was_done, no_note, open_plan, abandon_step, asked_bytes, shard_reply, hashes_reply, files_reply, batch_reply, RepliesToAll, lazy_reply};
 ghost use Rattle.xet_service.specs.Links.{answer_of};
 ghost use Rattle.xet_service.specs.Requests.{OfAct, OfPlanAct, OfFetch, OfLink, IsAnswer, IsOpenAt, IsWantedAt, KeepsReads, TakesAt};
 
 use crate::body::{TermBody, fetch_term_body};
-use crate::links::links_of;
+use crate::links::{links_of, links_of_entries, terms_of_files};
 use crate::pieces::Pieces;
 use crate::read::OpenRead;
 use crate::reader::{Reader, take_body};
@@ -28,10 +28,11 @@ use crate::step::{Act, PlanVersion};
 use bytes::Bytes;
 use std::alloc::Global;
 use xet_bytes::ByNumber;
+use xet_generated::RandomFileContents;
 use xet_store::Store;
 use xet_types::{
-    ClientError, FileRange, Items, MerkleHash, Octets, OutOfMemory, QueryReconstructionResponseV2,
-    XorbRangeDescriptor,
+    BatchQueryReconstructionResponse, ClientError, FileRange, Items, MerkleHash, Octets,
+    OutOfMemory, QueryReconstructionResponseV2, XorbRangeDescriptor,
 };
 use xet_xorb::{RandomXorb, SerializedXorbObject};
 
@@ -177,6 +178,20 @@ fn data(answer: Result<Bytes, ClientError>) -> Result<Reply, ClientError>
     }
 }
 
+/// The reply of a generated file's insertion.
+fn lazy(answer: Result<RandomFileContents, ClientError>) -> Result<Reply, ClientError>
+    ensures reply { result ≡ map_ok lazy_reply answer }
+    ensures answers { IfOk result IsAnswer }
+{
+    match answer {
+        Ok(contents) => Ok(Reply::Lazy {
+            file: contents.file_hash,
+            size: contents.content.len() as u64,
+        }),
+        Err(error) => Err(error),
+    }
+}
+
 /// Stores a xorb under a hash.
 fn upload_xorb<K: Store>(
     alloc: Global,
@@ -234,6 +249,37 @@ fn ask_plan<K: Store>(
     };
     let plan = QueryReconstructionResponseV2::from_v1(alloc, plan)?;
     Ok(Some(plan))
+}
+
+/// Plans that were taken together, as a reply.
+fn batch_reply(alloc: Global, batch: BatchQueryReconstructionResponse) -> Result<Reply, OutOfMemory>
+    ensures reply { IfOk result (λ reply. reply ≡ batch_reply batch) }
+    ensures answers { IfOk result IsAnswer }
+{
+    let files = terms_of_files(alloc, batch.files)?;
+    let links = links_of_entries(alloc, batch.fetch_info)?;
+    Ok(Reply::Batch {
+        files: Items::from_vec(files),
+        links: Items::from_vec(links),
+    })
+}
+
+/// The store's plans of several files, taken together, as a reply.
+fn ask_batch<K: Store>(
+    alloc: Global,
+    store: &mut K,
+    files: &[MerkleHash],
+    at: u64,
+) -> Result<Reply, ClientError>
+    ensures told { (m : StoreModel) → K.Client.told store.old ≡ Some m → Asks (RepliesToAll m files.now at) result }
+    ensures refusals { RefusedBy OfPlan result }
+    ensures answers { IfOk result IsAnswer }
+    ensures stays { K.Client.told store.new ≡ K.Client.told store.old }
+    ensures cause { FailsOnlyByFault (K.Client.faults store.old) (K.Client.faults store.new) result }
+{
+    let batch = store.batch_get_reconstruction(alloc, files, at)?;
+    let reply = batch_reply(alloc, batch)?;
+    Ok(reply)
 }
 
 /// The bytes of ranges, with ends that are excluded.
@@ -495,6 +541,13 @@ impl<K: Store> ChunkService<K> {
             } => { random(insert_random(alloc, &mut self.store, *seed, *num_chunks, *chunk_size)) }
             Act::FileSize { file } => size(self.store.get_file_size(alloc, file)),
             Act::FileData { file, range } => data(self.store.get_file_data(alloc, file, *range)),
+            Act::Batch { files } => ask_batch(alloc, &mut self.store, files.as_slice(), at),
+            Act::InsertLazyFile { terms, chunk_size } => {
+                lazy(
+                    self.store
+                        .insert_random_lazy_file(alloc, terms.as_slice(), *chunk_size as usize),
+                )
+            }
         }
     }
 }

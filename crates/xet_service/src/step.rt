@@ -1,5 +1,5 @@
 //! What a reader or a writer asks.
-use xet_types::{FileRange, MerkleHash, Octets};
+use xet_types::{FileRange, Items, MerkleHash, Octets};
 
 /// The form of a plan: with version 1 each run of a xorb's chunks has a link of its own; with version 2 a link may bring several runs.
 #[derive(Clone, Copy, Debug, PartialEq, Eq)]
@@ -105,6 +105,18 @@ pub enum Act {
     FileData {
         file: MerkleHash,
         range: Option<FileRange>,
+    },
+    /// Asks for the plans of version 1 of whole files, taken together. It opens no read.
+    Batch {
+        /// In the asked order.
+        files: Items<MerkleHash>,
+    },
+    /// Stores a generated file.
+    InsertLazyFile {
+        /// Seeds, each with a range of chunks of its xorb.
+        terms: Items<(u64, (u64, u64))>,
+        /// The length of a chunk in bytes.
+        chunk_size: u64,
     },
 }
 

@@ -18,6 +18,9 @@ use xet_xorb::read_chunks;
 fn is_multipart(content_type: &str) -> bool
     ensures { IsTrue result ↔ IsMultipart content_type.now }
 {
+    if content_type.is_empty() {
+        return false;
+    }
     memmem::find(content_type.as_bytes(), b"multipart/byteranges").is_some()
 }
 

@@ -1,11 +1,12 @@
-use Rattle.std.proofs.Common.{◌∙◌, ap}
-use Rattle.xet_store.specs.Commands.{UploadsXorb, UploadsShard, Is, hide_file, delete_xorb, set_expiration, set_max_ranges, set_dedup_expiration, drop_dedup, InsertsSeeded}
+use Rattle.std.proofs.Common.{◌∙◌, ℕ, List, ap, subst}
+use Rattle.xet_store.specs.Told.{Asks}
+use Rattle.xet_store.specs.Commands.{UploadsXorb, UploadsShard, Is, hide_file, delete_xorb, set_expiration, set_max_ranges, set_dedup_expiration, drop_dedup, InsertsSeeded, InsertsLazy}
 use Rattle.xet_service.specs.declared.reply.Reply.TheVariants.{Uploaded, ShardTaken, Hashes, Files, Random}
 use Rattle.xet_store.specs.Questions.{xorb_hashes}
 use Rattle.xet_store.specs.Checks.{checked, integrity, reachable, readable}
 use Rattle.xet_store.specs.Lists.{shard_hashes, file_entries}
-use Rattle.xet_service.specs.Steps.{was_done}
-use Rattle.xet_service.proofs.Doing.{leaves_same, command_does, ask_does, items_do}
+use Rattle.xet_service.specs.Steps.{was_done, RepliesToAll, lazy_reply}
+use Rattle.xet_service.proofs.Doing.{leaves_same, command_does, ask_does, items_do, batch_does}
 use Rattle.xet_service.proofs.Serving.{abandon_does}
 use Rattle.xet_service.proofs.service.ChunkService.act.Goals as goal
 
@@ -116,3 +117,20 @@ returns-in-InsertRandomXorb-clause-told g c = λ m told.
     let a = c.in-InsertRandomXorb in
     rw (a.is, c.random.ensures.reply)
     (command_does m s.reads s.next (g.K.Client.told c.insert_random.new.store) (InsertsSeeded m a.seed a.num_chunks a.chunk_size) Random c.insert_random.result (c.insert_random.ensures.told m told))
+
+pub returns-in-Batch-clause-told : goal.returns-in-Batch-clause-told
+returns-in-Batch-clause-told g c = λ m told.
+    let s = c.args.self.now in
+    rw c.in-Batch.is
+    (leaves_same m _ (g.K.Client.told c.ask_batch.new.store) (c.ask_batch.ensures.stays ∙ told)
+    (batch_does m s.reads s.next c.in-Batch.files c.args.at c.ask_batch.result
+    (subst (λ (files : List (List ℕ)). Asks (RepliesToAll m files c.args.at) c.ask_batch.result) c.as_slice.ensures (c.ask_batch.ensures.told m told))))
+
+pub returns-in-InsertLazyFile-clause-told : goal.returns-in-InsertLazyFile-clause-told
+returns-in-InsertLazyFile-clause-told g c = λ m told.
+    let s = c.args.self.now in
+    let a = c.in-InsertLazyFile in
+    let did = c.insert_random_lazy_file.ensures.told m told in
+    let done = rw c.as_slice-in-InsertLazyFile.ensures at did in
+    rw (a.is, c.lazy.ensures.reply)
+    (command_does m s.reads s.next (g.K.Client.told c.insert_random_lazy_file.new.self) (InsertsLazy m a.terms a.chunk_size) lazy_reply c.insert_random_lazy_file.result done)
