@@ -3,6 +3,8 @@ pub mod Cuts
 pub mod Steps
 pub mod Printing
 pub mod OneWord
+pub mod TermWords
+pub mod Making
 pub mod HexPairs
 pub mod HexDigits
 pub mod Quiet

@@ -1,6 +1,10 @@
 pub mod Words
+pub mod Calls
+pub mod Terms
 pub mod Lines
 pub mod Script
 pub mod Pages
 pub mod Printed
+pub mod Summaries
+pub mod Making
 pub mod TopCall

@@ -5,10 +5,11 @@ use Rattle.std.specs.Char.{is_ascii}
 use Rattle.xet_service.specs.declared.step.PlanVersion.{PlanVersion}
 use Rattle.xet_service.specs.declared.step.PlanVersion.TheVariants.{V1, V2}
 use Rattle.xet_service.specs.declared.step.Act.{Act}
-use Rattle.xet_service.specs.declared.step.Act.TheVariants.{UploadXorb, UploadShard, Plan, Fetch, Abandon, HideFile, DeleteShard, DeleteXorb, SetExpiration, SetMaxRanges, SetDedupExpiration, DedupQuery, FileSize, FileData, RemoveDedup, ListXorbs, ListShards, ListFiles, CheckIntegrity, CheckReachable, CheckReadable, InsertRandomXorb}
+use Rattle.xet_service.specs.declared.step.Act.TheVariants.{UploadXorb, UploadShard, Plan, Fetch, Abandon, HideFile, DeleteShard, DeleteXorb, SetExpiration, SetMaxRanges, SetDedupExpiration, DedupQuery, FileSize, FileData, RemoveDedup, ListXorbs, ListShards, ListFiles, CheckIntegrity, CheckReachable, CheckReadable, InsertRandomXorb, InsertLazyFile, Batch}
 use Rattle.xet_demo.specs.declared.script.line.Line.{Line}
 use Rattle.xet_demo.specs.declared.script.line.Line.TheVariants.{Passed, Command, Bad}
 use Rattle.xet_demo.specs.Words.{◌>>=◌, parts_of, is_word, number_of, small_number_of, hash_of, octets_of, range_of}
+use Rattle.xet_demo.specs.Terms.{terms_of}
 
 -- `xorb HASH BYTES`
 abbrev pub xorb_act : List ℕ → List ℕ → Option Act
@@ -114,6 +115,28 @@ random_act seed count size = do
   bytes ← small_number_of size
   Some (InsertRandomXorb s n bytes)
 
+-- `lazy SIZE` and any number of terms
+abbrev pub lazy_act : List (List ℕ) → Option Act
+lazy_act (size ∷ words) = do
+  bytes ← number_of size
+  terms ← terms_of words
+  Some (InsertLazyFile terms bytes)
+lazy_act [] = None
+
+-- the hashes of words, if each is one
+abbrev pub hashes_of : List (List ℕ) → Option (List (List ℕ))
+hashes_of [] = Some []
+hashes_of (word ∷ words) = do
+  hash ← hash_of word
+  hashes ← hashes_of words
+  Some (hash ∷ hashes)
+
+-- `batch FILE FILE ..`, with one file or more
+abbrev pub batch_act : List (List ℕ) → Option Act
+batch_act words = do
+  files ← hashes_of words
+  if length files == 0 then None else Some (Batch files)
+
 -- a command on deduplication
 abbrev pub dedup_word : List ℕ → List ℕ → Option Act
 dedup_word command a =
@@ -165,7 +188,7 @@ no_words command =
 abbrev pub three_words : List ℕ → List ℕ → List ℕ → List ℕ → Option Act
 three_words command a b c = if is_word command (codes "random") then random_act a b c else None
 
--- a command by the number of its words
+-- a command of few words, by their number
 abbrev pub words_from : List ℕ → List (List ℕ) → Option Act
 words_from command [] = no_words command
 words_from command (a ∷ []) = one_word command a
@@ -173,9 +196,14 @@ words_from command (a ∷ b ∷ []) = two_words command a b
 words_from command (a ∷ b ∷ c ∷ []) = three_words command a b c
 words_from command others = None
 
--- a command and its words
+-- a command by its words, of which there are any number
+abbrev pub words_of : List ℕ → List (List ℕ) → Option Act
+words_of command [] = no_words command
+words_of command (word ∷ words) = if is_word command (codes "lazy") then lazy_act (word ∷ words) else words_from command (word ∷ words)
+
+-- a command and its words, which may be any number of files
 abbrev pub act_of : List (List ℕ) → Option Act
-act_of (command ∷ words) = words_from command words
+act_of (command ∷ words) = if is_word command (codes "batch") then batch_act words else words_of command words
 act_of [] = None
 
 abbrev pub line_with : ℕ → Option Act → Line

@@ -15,7 +15,7 @@ use Rattle.xet_service.specs.declared.reply.CacheNote.{CacheNote}
 use Rattle.xet_service.specs.declared.reply.CacheRefusal.{CacheRefusal}
 use Rattle.xet_service.specs.declared.reply.CacheRefusal.TheVariants as caches
 use Rattle.xet_service.specs.declared.reply.Reply.{Reply}
-use Rattle.xet_service.specs.declared.reply.Reply.TheVariants.{Uploaded, ShardTaken, NoPlan, Done, Planned, Fetched, Finished, NoShard, ShardBytes, Random, Size, Data, Refused, Hashes, Files}
+use Rattle.xet_service.specs.declared.reply.Reply.TheVariants.{Uploaded, ShardTaken, NoPlan, Done, Planned, Fetched, Finished, NoShard, ShardBytes, Random, Size, Data, Refused, Hashes, Files, Lazy, Batch}
 
 -- one text after another
 abbrev pub joined : List (List ℕ) → List ℕ
@@ -70,6 +70,10 @@ entries_text entries = flat_map entry_line entries
 unfoldable pub random_line : List ℕ → List ℕ
 random_line hash = joined (codes "random " ∷ encode_lower hash ∷ codes "\n" ∷ [])
 
+-- a file's name, and how many bytes it has
+unfoldable pub lazy_line : List ℕ → ℕ → List ℕ
+lazy_line file size = joined (codes "lazy " ∷ encode_lower file ∷ codes " " ∷ decimal size ∷ codes "\n" ∷ [])
+
 unfoldable pub dedup_start : List ℕ
 dedup_start = codes "dedup "
 
@@ -108,6 +112,29 @@ link_line n l = link_start n l.url ++ ranges_text l.ranges ++ codes "\n"
 abbrev pub links_text : ℕ → List PlannedLink → List ℕ
 links_text n [] = []
 links_text n (l ∷ ls) = link_line n l ++ links_text (n + 1) ls
+
+unfoldable pub batch_start : ℕ → ℕ → List ℕ
+batch_start files links = joined (codes "batch files " ∷ decimal files ∷ codes " links " ∷ decimal links ∷ codes "\n" ∷ [])
+
+unfoldable pub file_start : List ℕ → ℕ → List ℕ
+file_start hash terms = joined (codes "file " ∷ encode_lower hash ∷ codes " terms " ∷ decimal terms ∷ codes "\n" ∷ [])
+
+-- a file and its terms
+abbrev pub file_text : (List ℕ × List XorbReconstructionTerm) → List ℕ
+file_text file = file_start file.0 (length file.1) ++ terms_text file.1
+
+abbrev pub all_files_text : List (List ℕ × List XorbReconstructionTerm) → List ℕ
+all_files_text files = flat_map file_text files
+
+unfoldable pub entry_start : List ℕ → List ℕ → List ℕ
+entry_start hash url = joined (codes "entry " ∷ encode_lower hash ∷ codes " " ∷ url ∷ codes " " ∷ [])
+
+-- a link of a plan of several files, under its xorb
+abbrev pub xorb_entry_line : PlannedLink → List ℕ
+xorb_entry_line l = entry_start l.hash l.url ++ ranges_text l.ranges ++ codes "\n"
+
+abbrev pub xorb_entries_text : List PlannedLink → List ℕ
+xorb_entries_text links = flat_map xorb_entry_line links
 
 abbrev pub cache_word : Option CacheRefusal → List ℕ
 cache_word None = codes "none"
@@ -180,6 +207,8 @@ reply_text (Files files) = files_start (length files) ++ entries_text files
 reply_text (Random hash) = random_line hash
 reply_text (Size n) = size_line n
 reply_text (Data bytes) = data_start ++ octets_text bytes ++ codes "\n"
+reply_text (Lazy file size) = lazy_line file size
+reply_text (Batch files links) = batch_start (length files) (length links) ++ all_files_text files ++ xorb_entries_text links
 reply_text (Refused why) = refused_line why
 
 -- the lines of replies, one reply after another

@@ -1,5 +1,5 @@
 -- How a call of the program ends.
-use Rattle.std.specs.Prelude.{◌≡◌, ℕ, ◌+◌, ◌<◌, ◌≤◌, List, [], ◌∷◌, length, Option, Result, Ok, Err, codes}
+use Rattle.std.specs.Prelude.{◌≡◌, ℕ, ◌+◌, ◌<◌, ◌≤◌, List, [], ◌∷◌, length, Option, Some, None, Result, Ok, Err}
 use Rattle.std.specs.Io.KnownBytes.{Consumes, IsAtEnd, Appends}
 use Rattle.std.specs.Global.{Vec}
 use Rattle.xet_types.specs.Faults.{Rose}
@@ -12,25 +12,16 @@ use Rattle.xet_service.specs.Runs.{World, world, Event}
 use Rattle.xet_service.specs.Runs as runs
 use Rattle.xet_service.specs.Validity.{IsAgreed, IsQuiet, ReadsSucceed}
 use Rattle.xet_service.specs.Headline.{Keeps, Finishes}
+use Rattle.xet_service.specs.Readable.{ReadableServe}
 use Rattle.xet_demo.specs.Script.{lines_of, AreStepsOf, IsFirstBad}
 use Rattle.xet_demo.specs.Pages.{WritesFront}
 use Rattle.xet_demo.specs.Printed.{replies_text}
+use Rattle.xet_demo.specs.Summaries.{summary_text}
+use Rattle.xet_demo.specs.Making.{made_steps}
+use Rattle.xet_demo.specs.declared.words.Call.{Call}
+use Rattle.xet_demo.specs.declared.words.Call.TheVariants.{Script, Make}
 use Rattle.xet_demo.specs.declared.run.Status.{Status}
 use Rattle.xet_demo.specs.declared.run.Status.TheVariants.{Done, Usage, BadLine, ReadFault, WriteFault, TooLong, OutOfMemory}
-
--- the words are this one alone
-abbrev pub IsWord : List ℕ → List (List ℕ) → Type 0
-IsWord only words = words ≡ only ∷ []
-
--- the words are the one word `memory`, `--help` or `--version`
-abbrev pub IsMemory : List (List ℕ) → Type 0
-IsMemory words = IsWord (codes "memory") words
-
-abbrev pub IsHelp : List (List ℕ) → Type 0
-IsHelp words = IsWord (codes "--help") words
-
-abbrev pub IsVersion : List (List ℕ) → Type 0
-IsVersion words = IsWord (codes "--version") words
 
 -- the exit status of the process
 abbrev pub exit_of : Status → ℕ
@@ -63,6 +54,8 @@ pub record Answered (steps : List Step) (replies : List Reply) : Type 0 where
   pub keeps : AllByRecursion Keeps events
   pub finishes : (m : Content) → IsAgreed m events → AllByRecursion Finishes events
   pub succeeds : (m : Content) → IsAgreed m events → ReadsSucceed events
+  -- what follows a check of readable files that holds
+  pub readable : ReadableServe events
   -- the outside never fails
   pub quiet : AllByRecursion IsQuiet events
 
@@ -160,26 +153,48 @@ pub record IsRun (answered : List Step → List Reply → Type 0) (old new : Sid
   pub read : ReadsStepsOf old.left new.left old.source_faults new.source_faults steps
   pub replies_are : answered steps replies
 
--- The lines of the replies were written, and nothing else.
-pub record EndsDone (answered : List Step → List Reply → Type 0) (old new : Sides) : Type 0 where
+-- The made steps were run, and these are their replies. The script was not read.
+pub record IsMadeRun (answered : List Step → List Reply → Type 0) (count : ℕ) (old new : Sides) (replies : List Reply) : Type 0 where
+  pub replies_are : answered (made_steps count) replies
+  pub unread : new.left ≡ old.left
+  pub source_faults : new.source_faults ≡ old.source_faults
+
+-- The text of replies of the run was written, and nothing else.
+pub record EndsDone (ran : List Reply → Type 0) (text : List Reply → List ℕ) (old new : Sides) : Type 0 where
   pub replies : List Reply
-  pub ran : IsRun answered old new replies
-  pub written : Appends old.taken new.taken (replies_text replies)
+  pub ran_so : ran replies
+  pub written : Appends old.taken new.taken (text replies)
   pub faults : new.sink_faults ≡ old.sink_faults
 
--- The sink failed when it had a front of the lines.
-pub record EndsUnwritten (answered : List Step → List Reply → Type 0) (old new : Sides) : Type 0 where
+-- The sink failed when it had a front of the text.
+pub record EndsUnwritten (ran : List Reply → Type 0) (text : List Reply → List ℕ) (old new : Sides) : Type 0 where
   pub replies : List Reply
-  pub ran : IsRun answered old new replies
-  pub written : WritesFront old.taken new.taken (replies_text replies)
+  pub ran_so : ran replies
+  pub written : WritesFront old.taken new.taken (text replies)
   pub rose : Rose old.sink_faults new.sink_faults
 
--- How a call ends, by its status: each has its cause.
+-- How the run of a script ends, by its status: each has its cause.
 abbrev pub EndsSo : (List Step → List Reply → Type 0) → Sides → Sides → Status → Type 0
-EndsSo answered old new Done = EndsDone answered old new
+EndsSo answered old new Done = EndsDone (IsRun answered old new) replies_text old new
 EndsSo answered old new Usage = new ≡ old
 EndsSo answered old new (BadLine n) = ReadsBadLine old.left new.left old.source_faults new.source_faults n × WritesNothing old new
 EndsSo answered old new ReadFault = FailsToRead old.left new.left old.source_faults new.source_faults × WritesNothing old new
-EndsSo answered old new WriteFault = EndsUnwritten answered old new
+EndsSo answered old new WriteFault = EndsUnwritten (IsRun answered old new) replies_text old new
 EndsSo answered old new TooLong = ReadsTooMuch old.left new.left old.source_faults new.source_faults × WritesNothing old new
 EndsSo answered old new OutOfMemory = ReadsSome old.left new.left old.source_faults new.source_faults × WritesNothing old new
+
+-- How a run of so many made files ends. What is written is the summary.
+abbrev pub EndsMade : (List Step → List Reply → Type 0) → ℕ → Sides → Sides → Status → Type 0
+EndsMade answered count old new Done = EndsDone (IsMadeRun answered count old new) summary_text old new
+EndsMade answered count old new WriteFault = EndsUnwritten (IsMadeRun answered count old new) summary_text old new
+EndsMade answered count old new OutOfMemory = new ≡ old
+EndsMade answered count old new Usage = ⊥
+EndsMade answered count old new (BadLine n) = ⊥
+EndsMade answered count old new ReadFault = ⊥
+EndsMade answered count old new TooLong = ⊥
+
+-- How a call ends, by what its words ask.
+abbrev pub EndsAs : (List Step → List Reply → Type 0) → Option Call → Sides → Sides → Status → Type 0
+EndsAs answered (Some Script) old new status = EndsSo answered old new status
+EndsAs answered (Some (Make count)) old new status = EndsMade answered count old new status
+EndsAs answered None old new status = new ≡ old

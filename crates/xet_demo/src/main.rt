@@ -1,6 +1,7 @@
 //! `xet_demo` runs a script over a chunk store, and prints what each of its commands answers.
 #![tactic(auto)]
 
+pub mod made;
 pub mod print;
 pub mod run;
 pub mod script;
@@ -18,7 +19,8 @@ const VERSION: &str = "xet_demo 0.1.0";
 
 const HELP: &str = "\
 Reads a script from standard input, runs its commands over an empty chunk store in memory, and prints
-what each of them answers. A line is a moment in milliseconds, a command and its words:
+what each of them answers. With `make N` the script isn't read: N files are made, a part of each is
+read, and sums are printed. A line is a moment in milliseconds, a command and its words:
 
   MOMENT xorb HASH BYTES    stores a xorb
   MOMENT shard BYTES        accepts a shard
@@ -29,6 +31,7 @@ what each of them answers. A line is a moment in milliseconds, a command and its
   MOMENT delete-shard HASH  takes a shard out
   MOMENT delete-xorb HASH   takes a xorb out
   MOMENT expire MS          sets the age above which links are expired
+  MOMENT lazy SIZE TERM..   stores a generated file of chunks of that size; TERM is SEED:START-END
   MOMENT size FILE          asks how many bytes a file has
   MOMENT data FILE RANGE    asks for a file's bytes
 

@@ -3,16 +3,20 @@ ghost use Rattle.std.specs.Prelude.{◌≡◌, ◌++◌, length, codes};
 ghost use Rattle.std.specs.List.{concat, flat_map};
 ghost use Rattle.hex.specs.Hex.{encode_lower};
 ghost use Rattle.xet_demo.specs.Pages.{Prints, output};
-ghost use Rattle.xet_demo.specs.Printed.{octets_text, truth_word, version_word, uploaded_line, shard_line, none_line, done_line, size_line, dedup_start, data_start, plan_line, term_line, terms_text, range_text, ranges_text, link_start, link_line, links_text, cache_word, note_text, fetched_start, finished_start, refusal_word, refusal_detail, refused_line, reply_text, replies_text, hashes_start, hash_line, hashes_text, files_start, entry_line, entries_text, random_line};
+ghost use Rattle.xet_demo.specs.Printed.{octets_text, truth_word, version_word, uploaded_line, shard_line, none_line, done_line, size_line, dedup_start, data_start, plan_line, term_line, terms_text, range_text, ranges_text, link_start, link_line, links_text, cache_word, note_text, fetched_start, finished_start, refusal_word, refusal_detail, refused_line, reply_text, replies_text, hashes_start, hash_line, hashes_text, files_start, entry_line, entries_text, random_line, lazy_line, batch_start, file_start, file_text, all_files_text, entry_start, xorb_entry_line, xorb_entries_text};
+ghost use Rattle.xet_demo.specs.Summaries.{report_text};
 
 pub mod digits;
 pub mod page;
+pub mod summary;
 
 use bytes::Bytes;
 use page::Page;
+use summary::print_summary;
 use xet_service::{CacheNote, CacheRefusal, Pieces, PlanVersion, PlannedLink, Reply};
 use xet_types::{
-    FormatFault, MerkleHash, Octets, Refusal, Sink, XorbRangeDescriptor, XorbReconstructionTerm,
+    FormatFault, Items, MerkleHash, Octets, Refusal, Sink, XorbRangeDescriptor,
+    XorbReconstructionTerm,
 };
 
 fn truth_word(truth: bool) -> &'static [u8]
@@ -211,6 +215,17 @@ fn print_random<K: Sink>(page: &mut Page, sink: &mut K, hash: &MerkleHash)
     page.put(sink, b"\n");
 }
 
+#[tactic(auto, unfolding(crate::specs::Printed::lazy_line))]
+fn print_lazy<K: Sink>(page: &mut Page, sink: &mut K, file: &MerkleHash, size: u64)
+    ensures { Prints (output (K.taken sink.old) (K.faults sink.old) page.old) (output (K.taken sink.new) (K.faults sink.new) page.new) (lazy_line file.now size) }
+{
+    page.put(sink, b"lazy ");
+    page.put_hash(sink, file);
+    page.put(sink, b" ");
+    page.put_number(sink, size);
+    page.put(sink, b"\n");
+}
+
 #[tactic(auto, unfolding(crate::specs::Printed::dedup_start))]
 fn print_dedup_start<K: Sink>(page: &mut Page, sink: &mut K)
     ensures { Prints (output (K.taken sink.old) (K.faults sink.old) page.old) (output (K.taken sink.new) (K.faults sink.new) page.new) dedup_start }
@@ -384,6 +399,78 @@ fn print_pieces<K: Sink>(page: &mut Page, sink: &mut K, bytes: &Pieces)
     }
 }
 
+#[tactic(auto, unfolding(crate::specs::Printed::batch_start))]
+fn print_batch_start<K: Sink>(page: &mut Page, sink: &mut K, files: usize, links: usize)
+    ensures { Prints (output (K.taken sink.old) (K.faults sink.old) page.old) (output (K.taken sink.new) (K.faults sink.new) page.new) (batch_start files links) }
+{
+    page.put(sink, b"batch files ");
+    page.put_number(sink, files as u64);
+    page.put(sink, b" links ");
+    page.put_number(sink, links as u64);
+    page.put(sink, b"\n");
+}
+
+#[tactic(auto, unfolding(crate::specs::Printed::file_start))]
+fn print_file_start<K: Sink>(page: &mut Page, sink: &mut K, hash: &MerkleHash, terms: usize)
+    ensures { Prints (output (K.taken sink.old) (K.faults sink.old) page.old) (output (K.taken sink.new) (K.faults sink.new) page.new) (file_start hash.now terms) }
+{
+    page.put(sink, b"file ");
+    page.put_hash(sink, hash);
+    page.put(sink, b" terms ");
+    page.put_number(sink, terms as u64);
+    page.put(sink, b"\n");
+}
+
+fn print_file<K: Sink>(
+    page: &mut Page,
+    sink: &mut K,
+    file: &(MerkleHash, Items<XorbReconstructionTerm>),
+)
+    ensures { Prints (output (K.taken sink.old) (K.faults sink.old) page.old) (output (K.taken sink.new) (K.faults sink.new) page.new) (file_text file.now) }
+{
+    print_file_start(page, sink, &file.0, file.1.len());
+    print_terms(page, sink, file.1.as_slice());
+}
+
+fn print_all_files<K: Sink>(
+    page: &mut Page,
+    sink: &mut K,
+    files: &[(MerkleHash, Items<XorbReconstructionTerm>)],
+)
+    ensures { Prints (output (K.taken sink.old) (K.faults sink.old) page.old) (output (K.taken sink.new) (K.faults sink.new) page.new) (all_files_text files.now) }
+{
+    for file in files {
+        print_file(page, sink, file);
+    }
+}
+
+#[tactic(auto, unfolding(crate::specs::Printed::entry_start))]
+fn print_entry_start<K: Sink>(page: &mut Page, sink: &mut K, hash: &MerkleHash, url: &Octets)
+    ensures { Prints (output (K.taken sink.old) (K.faults sink.old) page.old) (output (K.taken sink.new) (K.faults sink.new) page.new) (entry_start hash.now url.now) }
+{
+    page.put(sink, b"entry ");
+    page.put_hash(sink, hash);
+    page.put(sink, b" ");
+    page.put(sink, url.as_slice());
+    page.put(sink, b" ");
+}
+
+fn print_xorb_entry<K: Sink>(page: &mut Page, sink: &mut K, link: &PlannedLink)
+    ensures { Prints (output (K.taken sink.old) (K.faults sink.old) page.old) (output (K.taken sink.new) (K.faults sink.new) page.new) (xorb_entry_line link.now) }
+{
+    print_entry_start(page, sink, &link.hash, &link.url);
+    print_ranges(page, sink, link.ranges.as_slice());
+    page.put(sink, b"\n");
+}
+
+fn print_xorb_entries<K: Sink>(page: &mut Page, sink: &mut K, links: &[PlannedLink])
+    ensures { Prints (output (K.taken sink.old) (K.faults sink.old) page.old) (output (K.taken sink.new) (K.faults sink.new) page.new) (xorb_entries_text links.now) }
+{
+    for link in links {
+        print_xorb_entry(page, sink, link);
+    }
+}
+
 #[tactic(auto, unfolding(crate::specs::Printed::refused_line))]
 fn print_refused<K: Sink>(page: &mut Page, sink: &mut K, refusal: &Refusal)
     ensures { Prints (output (K.taken sink.old) (K.faults sink.old) page.old) (output (K.taken sink.new) (K.faults sink.new) page.new) (refused_line refusal.now) }
@@ -460,7 +547,32 @@ pub fn print_reply<K: Sink>(page: &mut Page, sink: &mut K, reply: &Reply)
             print_octets(page, sink, bytes);
             page.put(sink, b"\n");
         }
+        Reply::Lazy { file, size } => print_lazy(page, sink, file, *size),
+        Reply::Batch { files, links } => {
+            print_batch_start(page, sink, files.len(), links.len());
+            print_all_files(page, sink, files.as_slice());
+            print_xorb_entries(page, sink, links.as_slice());
+        }
         Reply::Refused(refusal) => print_refused(page, sink, refusal),
+    }
+}
+
+/// What is printed of replies.
+#[derive(Clone, Copy, Debug, PartialEq, Eq)]
+pub enum Report {
+    /// The lines of each.
+    Lines,
+    /// How many there are, and their lengths summed.
+    Summary,
+}
+
+/// Prints what is reported of replies.
+pub fn print_report<K: Sink>(page: &mut Page, sink: &mut K, report: Report, replies: &[Reply])
+    ensures { Prints (output (K.taken sink.old) (K.faults sink.old) page.old) (output (K.taken sink.new) (K.faults sink.new) page.new) (report_text report replies.now) }
+{
+    match report {
+        Report::Lines => print_replies(page, sink, replies),
+        Report::Summary => print_summary(page, sink, replies),
     }
 }
 

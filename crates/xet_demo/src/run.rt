@@ -1,13 +1,15 @@
 //! The one call of the program.
-ghost use Rattle.std.specs.Prelude.{◌≡◌, ◌↔◌, ◌≤◌, IfOk, map, length};
+ghost use Rattle.std.specs.Prelude.{◌≡◌, ◌↔◌, ◌≤◌, ℕ, List, Option, None, IfOk, map, length};
 ghost use Rattle.std.specs.String.{string_bytes};
-ghost use Rattle.xet_demo.specs.Printed.{replies_text};
-ghost use Rattle.xet_demo.specs.TopCall.{Answered, EndsSo, IsMemory, ReadsScript, ReadsSteps, WritesText, sides, exit_of};
+ghost use Rattle.xet_demo.specs.Summaries.{report_text};
+ghost use Rattle.xet_demo.specs.Calls.{call_of};
+ghost use Rattle.xet_demo.specs.TopCall.{Answered, EndsAs, EndsMade, EndsSo, ReadsScript, ReadsSteps, WritesText, sides, exit_of};
 
+use crate::made::made_steps;
 use crate::print::page::Page;
-use crate::print::print_replies;
+use crate::print::{Report, print_report};
 use crate::script::{ScriptError, parse_script};
-use crate::words::is_memory;
+use crate::words::{Call, call_of};
 use std::alloc::Global;
 use std::{fmt, mem};
 use xet_service::{ChunkService, Reply, Step, run_steps};
@@ -120,14 +122,14 @@ fn replies_of(alloc: Global, steps: &[Step]) -> Result<Vec<Reply>, OutOfMemory>
     Ok(replies)
 }
 
-/// Writes the lines of replies. No memory is taken once something was written.
-fn write_replies<K: Sink>(alloc: Global, sink: &mut K, replies: &[Reply]) -> Status
-    ensures { WritesText (K.taken sink.old) (K.taken sink.new) (K.faults sink.old) (K.faults sink.new) (replies_text replies.now) result }
+/// Writes what is reported of replies. No memory is taken once something was written.
+fn write_report<K: Sink>(alloc: Global, sink: &mut K, report: Report, replies: &[Reply]) -> Status
+    ensures { WritesText (K.taken sink.old) (K.taken sink.new) (K.faults sink.old) (K.faults sink.new) (report_text report replies.now) result }
 {
     let Ok(mut page) = Page::new(alloc) else {
         return Status::OutOfMemory;
     };
-    print_replies(&mut page, sink, replies);
+    print_report(&mut page, sink, report, replies);
     page.flush(sink);
     if page.has_failed() {
         Status::WriteFault
@@ -154,7 +156,7 @@ fn run<S: Source, K: Sink>(alloc: Global, source: &mut S, sink: &mut K) -> Statu
     };
     match replies_of(alloc, &steps) {
         Ok(replies) => {
-            let status = write_replies(alloc, sink, &replies);
+            let status = write_report(alloc, sink, Report::Lines, &replies);
             leave(steps, replies);
             status
         }
@@ -162,7 +164,25 @@ fn run<S: Source, K: Sink>(alloc: Global, source: &mut S, sink: &mut K) -> Statu
     }
 }
 
-/// Reads a script, runs its steps over an empty store in memory, and writes the lines of their replies.
+/// Makes so many files, reads a part of each, and writes a summary.
+fn make<K: Sink>(alloc: Global, count: u32, sink: &mut K) -> Status
+    ensures { (left : Option (List ℕ)) (faults : ℕ) → EndsMade Answered count (sides left faults (K.taken sink.old) (K.faults sink.old)) (sides left faults (K.taken sink.new) (K.faults sink.new)) result }
+{
+    let Ok(steps) = made_steps(alloc, count) else {
+        return Status::OutOfMemory;
+    };
+    match replies_of(alloc, &steps) {
+        Ok(replies) => {
+            let status = write_report(alloc, sink, Report::Summary, &replies);
+            leave(steps, replies);
+            status
+        }
+        Err(OutOfMemory) => Status::OutOfMemory,
+    }
+}
+
+/// Runs steps over an empty store in memory. With the word `memory` they are those of the script that the source gives, and the lines
+/// of their replies are written; with `memory make N`, N from 1 to 2000, they are [`made_steps`], and a summary is written.
 ///
 /// The words are those behind the program's name. Under every status but `Done` and `WriteFault` nothing is written.
 pub fn run_script<S: Source, W: Sink>(
@@ -171,13 +191,13 @@ pub fn run_script<S: Source, W: Sink>(
     source: &mut S,
     sink: &mut W,
 ) -> Status
-    ensures usage { (result ≡ Status.Usage) ↔ ¬ IsMemory (map string_bytes words.now) }
-    ensures ends { EndsSo Answered (sides (S.left source.old) (S.faults source.old) (W.taken sink.old) (W.faults sink.old)) (sides (S.left source.new) (S.faults source.new) (W.taken sink.new) (W.faults sink.new)) result }
+    ensures usage { (result ≡ Status.Usage) ↔ (call_of (map string_bytes words.now) ≡ None) }
+    ensures ends { EndsAs Answered (call_of (map string_bytes words.now)) (sides (S.left source.old) (S.faults source.old) (W.taken sink.old) (W.faults sink.old)) (sides (S.left source.new) (S.faults source.new) (W.taken sink.new) (W.faults sink.new)) result }
 {
-    if is_memory(words) {
-        run(alloc, source, sink)
-    } else {
-        Status::Usage
+    match call_of(words) {
+        Some(Call::Script) => run(alloc, source, sink),
+        Some(Call::Make(count)) => make(alloc, count, sink),
+        None => Status::Usage,
     }
 }
 

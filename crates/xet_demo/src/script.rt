@@ -5,6 +5,7 @@ ghost use Rattle.xet_demo.specs.Script.{AddsStepsOf, Parses};
 
 pub mod digits;
 pub mod line;
+pub mod terms;
 pub mod word;
 
 use line::{Line, line_of};

@@ -13,8 +13,8 @@ use xet_types::{Failed, MerkleHash, OutOfMemory, Sink};
 /// How many bytes a page holds.
 pub const ROOM: usize = 65_536;
 
-/// How many bytes are written as digits at a time.
-const PIECE: usize = 1024;
+/// How many bytes are written as digits at a time; their digits fit a page.
+const PIECE: usize = 16_384;
 
 /// Text on its way to a sink, which gets it whenever the page is full.
 ///
@@ -86,6 +86,7 @@ impl Page {
     }
 
     /// Adds bytes that fit.
+    #[inline(always)]
     fn add(&mut self, bytes: &[u8])
         requires { length self.old.text + length bytes.now ≤ ROOM }
         ensures { self.new ≡ with_text self.old (self.old.text ++ bytes.now) }
@@ -97,6 +98,7 @@ impl Page {
     }
 
     /// Prints bytes.
+    #[inline(always)]
     pub fn put<K: Sink>(&mut self, sink: &mut K, bytes: &[u8])
         ensures { Prints (output (K.taken sink.old) (K.faults sink.old) self.old) (output (K.taken sink.new) (K.faults sink.new) self.new) bytes.now }
     {
@@ -108,6 +110,7 @@ impl Page {
     }
 
     /// Prints bytes that may be more than a page.
+    #[inline(never)]
     fn put_long<K: Sink>(&mut self, sink: &mut K, bytes: &[u8])
         ensures { Prints (output (K.taken sink.old) (K.faults sink.old) self.old) (output (K.taken sink.new) (K.faults sink.new) self.new) bytes.now }
     {
@@ -130,13 +133,16 @@ impl Page {
         self.put(sink, buffer.format(number).as_bytes());
     }
 
-    /// Prints a hash as 64 hexadecimal digits.
-    pub fn put_hash<K: Sink>(&mut self, sink: &mut K, hash: &MerkleHash)
-        ensures { Prints (output (K.taken sink.old) (K.faults sink.old) self.old) (output (K.taken sink.new) (K.faults sink.new) self.new) (encode_lower hash.now) }
+    /// Adds the digits of bytes for which there is room.
+    fn add_hex(&mut self, bytes: &[u8])
+        requires { length self.old.text + 2 * length bytes.now ≤ ROOM }
+        ensures { self.new ≡ with_text self.old (self.old.text ++ encode_lower bytes.now) }
     {
-        let mut digits = [0u8; 64];
-        spell(hash.as_slice(), &mut digits);
-        self.put(sink, &digits);
+        let start = self.text.len();
+        match self.text.resize(start + 2 * bytes.len(), 0) {
+            Ok(()) => spell(bytes, &mut self.text.as_mut_slice()[start..]),
+            Err(_) => unreachable!(),
+        }
     }
 
     /// Prints few bytes as hexadecimal digits.
@@ -144,10 +150,17 @@ impl Page {
         requires { length bytes.now ≤ PIECE }
         ensures { Prints (output (K.taken sink.old) (K.faults sink.old) self.old) (output (K.taken sink.new) (K.faults sink.new) self.new) (encode_lower bytes.now) }
     {
-        let mut room = [0u8; 2048];
-        let digits = &mut room[..2 * bytes.len()];
-        spell(bytes, digits);
-        self.put(sink, digits);
+        if self.text.len() + 2 * bytes.len() > ROOM {
+            self.flush(sink);
+        }
+        self.add_hex(bytes);
+    }
+
+    /// Prints a hash as 64 hexadecimal digits.
+    pub fn put_hash<K: Sink>(&mut self, sink: &mut K, hash: &MerkleHash)
+        ensures { Prints (output (K.taken sink.old) (K.faults sink.old) self.old) (output (K.taken sink.new) (K.faults sink.new) self.new) (encode_lower hash.now) }
+    {
+        self.put_hex_piece(sink, hash.as_slice());
     }
 
     /// Prints bytes as hexadecimal digits.

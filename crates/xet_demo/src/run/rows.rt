@@ -6,6 +6,7 @@ use std::process::Abort;
 use std::test::Fail;
 use xet_types::{MemorySink, MemorySource};
 
+mod batched;
 mod between;
 mod deduplicated;
 mod failing;
@@ -13,6 +14,7 @@ mod fetched;
 mod generated;
 mod grouped;
 mod listed;
+mod made;
 mod plainly;
 mod planned;
 mod verified;
@@ -25,7 +27,7 @@ type Row = (
 );
 
 /// What a name stands for: the file's hash, the beginning of a shard that lists one file, what is said of a cache that isn't
-/// there, the name of the shard that lists the file as the chunk `abc`, the hashes of xorbs, the chunk `abc`, the listing of a xorb
+/// there, the name of the shard that lists the file as the chunk `abc`, the hashes of xorbs and of generated files and their shards, the chunk `abc`, the listing of a xorb
 /// of it alone, and the name of the shard that lists that file and that xorb.
 fn meaning(name: &str) -> &'static str {
     match name {
@@ -44,6 +46,13 @@ fn meaning(name: &str) -> &'static str {
         "chunk" => "ba7816bf8f01cfea414140de5dae2223b00361a396177a9cb410ff61f20015ad",
         "chunks" =>
             "0300000001000000ba7816bf8f01cfea414140de5dae2223b00361a396177a9cb410ff61f20015ad00000000030000000500000006000000",
+        "lazy" => "ffaa779ea6668570aa24a6b632dd8ed4b71e6d2cf9822e358baa5a4a89e1d6e0",
+        "none" => "66687aadf862bd776c8fc18b8e9f8e20089714856ee233b3902a591d0d5f2925",
+        "seed1" => "9386a9154dd83319e368dd21d4d6443145f63fdf6c4954eff6f06eab85768e59",
+        "seed2" => "7feeb742e3eb562e4c864f729b82809357ecabb1d4d8b2b3cc2ac286cf86dc85",
+        "lazy-shard" => "2ea8845eb2b049e023b37110851f8f714b39b686c14870246b08a9be8ccad5eb",
+        "split-shard" => "c366238274f1df4da3577fd11066b9c50e27a22475e9594f3cf32f8bb3ee518e",
+        "none-shard" => "f2f311a7e7be14dcc87b75e9acdcb1a01325b07c6a9afadf9a5d04da43082de6",
         "named" => "e3108abd6839160b9ed9faf7960b51f8bf3ef22ab2b5f8d7ae12ae7a1fd18fa8",
         _ => "?",
     }

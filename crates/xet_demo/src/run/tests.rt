@@ -134,7 +134,7 @@ refused status 500
 fn printed_lines(rt: HostRuntime) -> Result<(), Fail> {
     let replies = replies(rt.alloc())?;
     let mut sink = MemorySink::new(rt.alloc(), &[])?;
-    let status = write_replies(rt.alloc(), &mut sink, &replies);
+    let status = write_report(rt.alloc(), &mut sink, Report::Lines, &replies);
     assert_eq!(rt; status, Status::Done);
     assert_eq!(rt; std::str::from_utf8(sink.taken())?, LINES);
     Ok(())

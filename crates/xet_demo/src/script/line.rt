@@ -1,15 +1,17 @@
 //! What a line of a script means.
 ghost use Rattle.std.specs.Prelude.{◌≡◌, ◌∷◌, IfOk};
+ghost use Rattle.std.specs.Option.{option_copied, option_map};
 ghost use Rattle.std.specs.List.{list_all};
 ghost use Rattle.std.specs.Char.{is_ascii};
-ghost use Rattle.xet_demo.specs.Words.{parts_of};
-ghost use Rattle.xet_demo.specs.Lines.{act_of, dedup_word, short_word, one_word, two_words, words_from, words_line, xorb_act, shard_act, plan_act, fetch_act, abandon_act, hide_act, delete_shard_act, delete_xorb_act, expire_act, max_act, dedup_expire_act, dedup_act, size_act, data_act, ascii_line, line_of, check_word, no_words, drop_dedup_act, three_words, random_act};
+ghost use Rattle.xet_demo.specs.Words.{parts_of, parts_after};
+ghost use Rattle.xet_demo.specs.Lines.{act_of, dedup_word, short_word, one_word, two_words, words_from, words_line, xorb_act, shard_act, plan_act, fetch_act, abandon_act, hide_act, delete_shard_act, delete_xorb_act, expire_act, max_act, dedup_expire_act, dedup_act, size_act, data_act, ascii_line, line_of, check_word, no_words, drop_dedup_act, three_words, random_act, lazy_act, words_of, hashes_of, batch_act};
 
 use super::digits::hash;
+use super::terms::terms;
 use super::word::{cut, number, octets, range, small_number};
 use std::alloc::Global;
 use xet_service::{Act, PlanVersion, Step};
-use xet_types::OutOfMemory;
+use xet_types::{Items, MerkleHash, OutOfMemory};
 
 /// What a line means.
 #[derive(Debug, Drop)]
@@ -158,6 +160,50 @@ fn random(seed: &[u8], count: &[u8], size: &[u8]) -> Option<Act>
     })
 }
 
+/// A generated file, by the length of its chunks and, behind it, its terms, joined by single spaces.
+fn lazy(alloc: Global, size: &[u8], words: Option<&[u8]>) -> Result<Option<Act>, OutOfMemory>
+    ensures { IfOk result (λ act. act ≡ lazy_act (size.now ∷ parts_after 32 (option_copied words.entry))) }
+{
+    let Some(chunk_size) = number(size) else {
+        return Ok(None);
+    };
+    match terms(alloc, words)? {
+        Some(terms) => Ok(Some(Act::InsertLazyFile { terms, chunk_size })),
+        None => Ok(None),
+    }
+}
+
+/// The hashes that words are, which are joined by single spaces.
+fn hashes(alloc: Global, words: Option<&[u8]>) -> Result<Option<Vec<MerkleHash>>, OutOfMemory>
+    ensures { IfOk result (λ hashes. option_map (λ hs. hs.items) hashes ≡ hashes_of (parts_after 32 (option_copied words.entry))) }
+{
+    let mut hashes = Vec::new(alloc);
+    let mut rest = words;
+    while let Some(words) = rest {
+        let (word, more) = cut(words, b' ');
+        let Some(hash) = hash(word) else {
+            return Ok(None);
+        };
+        hashes.push(hash)?;
+        rest = more;
+    }
+    Ok(Some(hashes))
+}
+
+fn batch(alloc: Global, words: Option<&[u8]>) -> Result<Option<Act>, OutOfMemory>
+    ensures { IfOk result (λ act. act ≡ batch_act (parts_after 32 (option_copied words.entry))) }
+{
+    let Some(files) = hashes(alloc, words)? else {
+        return Ok(None);
+    };
+    if files.is_empty() {
+        return Ok(None);
+    }
+    Ok(Some(Act::Batch {
+        files: Items::from_vec(files),
+    }))
+}
+
 /// The act of a command on deduplication.
 fn dedup_word(command: &[u8], word: &[u8]) -> Option<Act>
     ensures { result ≡ dedup_word command.now word.now }
@@ -298,12 +344,27 @@ fn act_with(alloc: Global, command: &[u8], words: &[u8]) -> Result<Option<Act>, 
     }
 }
 
+/// The act of a command with words, of which one command takes any number.
+fn words(alloc: Global, command: &[u8], words: &[u8]) -> Result<Option<Act>, OutOfMemory>
+    ensures { IfOk result (λ act. act ≡ words_of command.now (parts_of 32 words.now)) }
+{
+    if command == b"lazy".as_slice() {
+        let (size, rest) = cut(words, b' ');
+        lazy(alloc, size, rest)
+    } else {
+        act_with(alloc, command, words)
+    }
+}
+
 fn act(alloc: Global, text: &[u8]) -> Result<Option<Act>, OutOfMemory>
     ensures { IfOk result (λ act. act ≡ act_of (parts_of 32 text.now)) }
 {
     let (command, rest) = cut(text, b' ');
+    if command == b"batch".as_slice() {
+        return batch(alloc, rest);
+    }
     match rest {
-        Some(words) => act_with(alloc, command, words),
+        Some(rest) => words(alloc, command, rest),
         None => Ok(no_words(command)),
     }
 }

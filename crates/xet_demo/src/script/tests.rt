@@ -15,7 +15,7 @@ fn outcome(alloc: Global, script: &[u8]) -> Result<String, Fail> {
 
 #[test]
 fn lines(rt: HostRuntime) -> Result<(), Fail> {
-    let cases: [(&[u8], &str); 33] = [
+    let cases: [(&[u8], &str); 45] = [
         (b"", "0 steps"),
         (b"\n\r\n# a comment\r\n", "0 steps"),
         (b"6 fetch 0 0", "1 steps"),
@@ -49,6 +49,21 @@ fn lines(rt: HostRuntime) -> Result<(), Fail> {
         (b"0 random 1 2 64", "1 steps"),
         (b"0 random 1 4294967296 64", "line 1"),
         (b"0 random 1 2 64 ", "line 1"),
+        (
+            b"0 lazy 64\n0 lazy 64 1:0-2 2:5-3 1:0-18446744073709551615",
+            "2 steps",
+        ),
+        (b"0 lazy", "line 1"),
+        (b"0 lazy 64 ", "line 1"),
+        (b"0 lazy 64 1:0-2  2:0-1", "line 1"),
+        (b"0 lazy 64 1:0", "line 1"),
+        (b"0 lazy 64 1:0-1-2", "line 1"),
+        (b"0 lazy 64 1:2:0-1", "line 1"),
+        (b"0 lazy 64 0-1", "line 1"),
+        (b"0 lazy 18446744073709551616 1:0-1", "line 1"),
+        (b"0 batch", "line 1"),
+        (b"0 batch ", "line 1"),
+        (b"0 batch aa", "line 1"),
     ];
     for (script, expected) in cases {
         let got = outcome(rt.alloc(), script)?;
@@ -75,5 +90,28 @@ fn hashes_and_ranges(rt: HostRuntime) -> Result<(), Fail> {
     let capitals = b"0 plan1 4F8B42C22DD3729B519BA6F68D2DA7CC5B2D606D05DAED5AD5128CC03E6C6358 all";
     let got = outcome(rt.alloc(), capitals)?;
     assert_eq!(rt; got.as_str(), "1 steps");
+    Ok(())
+}
+
+#[test]
+fn batches(rt: HostRuntime) -> Result<(), Fail> {
+    let cases = [
+        (format!(in rt.alloc(); "0 batch {HASH}")?, "1 steps"),
+        (
+            format!(in rt.alloc(); "0 batch {HASH} {HASH} {HASH} {HASH} {HASH}")?,
+            "1 steps",
+        ),
+        (format!(in rt.alloc(); "0 batch {HASH} ")?, "line 1"),
+        (format!(in rt.alloc(); "0 batch {HASH}  {HASH}")?, "line 1"),
+        (
+            format!(in rt.alloc(); "0 batch {HASH} {HASH} all")?,
+            "line 1",
+        ),
+        (format!(in rt.alloc(); "0 batched {HASH}")?, "line 1"),
+    ];
+    for (script, expected) in &cases {
+        let got = outcome(rt.alloc(), script.as_bytes())?;
+        assert_eq!(rt; got.as_str(), *expected);
+    }
     Ok(())
 }

@@ -30,5 +30,6 @@ returns c =
       keeps = found.3.keeps (none_in_order start refl);
       finishes = λ m agreed. found.3.finishes m (record { none_open = refl; agreed = agreed });
       succeeds = λ m agreed. found.3.succeeds m (record { none_open = refl; agreed = agreed });
+      readable = found.3.readable (none_in_order start refl);
       quiet = (quiet_chain here events there found.2.chain refl).1;
     }
