@@ -18,3 +18,4 @@ pub mod Left
 pub mod Plainly
 pub mod PlainRuns
 pub mod GroupLaws
+pub mod Heads

@@ -127,12 +127,12 @@ fn offset_of(start: u64, cuts: &[Cut]) -> u64
     }
 }
 
-fn plan_of(alloc: Global, start: u64, cuts: &[Cut]) -> Result<Plan, OutOfMemory>
-    requires { NoneEmpty cuts.now }
-    ensures { IfOk result (IsPlanOf start cuts.now) }
+fn plan_of(alloc: Global, start: u64, cuts: Vec<Cut>) -> Result<Plan, OutOfMemory>
+    requires { NoneEmpty cuts.items }
+    ensures { IfOk result (IsPlanOf start cuts.items) }
 {
-    let offset_into_first_range = offset_of(start, cuts);
-    let terms = terms_of(alloc, cuts)?;
+    let offset_into_first_range = offset_of(start, &cuts);
+    let terms = terms_of(alloc, &cuts)?;
     let merged = runs_of(alloc, cuts)?;
     Ok(Plan {
         offset_into_first_range,
@@ -157,7 +157,7 @@ fn plan_within<F: Footers>(
     ensures cause { FailsOnlyByFault (F.faults footers.old) (F.faults footers.new) result }
 {
     let cuts = cuts_of(alloc, segments, start, end, footers)?;
-    let plan = plan_of(alloc, start, &cuts)?;
+    let plan = plan_of(alloc, start, cuts)?;
     Ok(plan)
 }
 

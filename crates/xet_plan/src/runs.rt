@@ -45,72 +45,58 @@ fn joined(current: &Cut, next: &Cut) -> Cut
     both
 }
 
-fn in_order(alloc: Global, cuts: &[Cut]) -> Result<Vec<Cut>, OutOfMemory>
-    ensures permutation { IfOk result (λ v. IsPermutation cuts.now v.items) }
-    ensures order { IfOk result (λ v. InOrder v.items) }
+/// The cuts by hash, then start.
+fn in_order(mut cuts: Vec<Cut>) -> Vec<Cut>
+    ensures permutation { IsPermutation cuts.items result.items }
+    ensures order { InOrder result.items }
 {
-    let mut sorted = Vec::from_slice(alloc, cuts)?;
-    sorted.sort()?;
-    Ok(sorted)
+    cuts.sort_unstable();
+    cuts
 }
 
-/// Of cuts in order, those that overlap or touch made one.
-fn merge(alloc: Global, sorted: &[Cut]) -> Result<Vec<Cut>, OutOfMemory>
-    ensures { IfOk result (λ v. v.items ≡ merged sorted.now) }
+/// Of cuts in order, those that overlap or touch made one, and those of one hash in one list.
+#[tactic(auto, using(crate::proofs::Heads::first_merged))]
+fn merged_by_hash(
+    alloc: Global,
+    sorted: &[Cut],
+) -> Result<Vec<(MerkleHash, Vec<MergedRange>)>, OutOfMemory>
+    ensures { IfOk result (λ v. map ranges_shown v.items ≡ grouped (merged sorted.now)) }
 {
-    let mut done = Vec::with_capacity(alloc, sorted.len())?;
     let Some((first, rest)) = sorted.split_first() else {
-        return Ok(done);
+        return Ok(Vec::new(alloc));
     };
+    let mut groups = Vec::with_capacity(alloc, 1)?;
+    let mut ranges = Vec::with_capacity(alloc, 1)?;
     let mut current = *first;
     for next in rest {
         if joins(&current, next) {
             current = joined(&current, next);
             continue;
         }
-        done.push(current)?;
-        current = *next;
-    }
-    done.push(current)?;
-    Ok(done)
-}
-
-/// Neighbours of one hash in one list.
-fn by_hash(alloc: Global, cuts: &[Cut]) -> Result<Vec<(MerkleHash, Vec<MergedRange>)>, OutOfMemory>
-    ensures { IfOk result (λ v. map ranges_shown v.items ≡ grouped cuts.now) }
-{
-    let mut groups = Vec::new(alloc);
-    let Some((first, rest)) = cuts.split_first() else {
-        return Ok(groups);
-    };
-    let mut hash = first.hash;
-    let mut ranges = Vec::new(alloc);
-    ranges.push(range_of(first))?;
-    for next in rest {
-        if next.hash == hash {
-            ranges.push(range_of(next))?;
+        ranges.push(range_of(&current))?;
+        if next.hash == current.hash {
+            current = *next;
             continue;
         }
-        groups.push((hash, ranges))?;
-        hash = next.hash;
-        ranges = Vec::new(alloc);
-        ranges.push(range_of(next))?;
+        groups.push((current.hash, ranges))?;
+        ranges = Vec::with_capacity(alloc, 1)?;
+        current = *next;
     }
-    groups.push((hash, ranges))?;
+    ranges.push(range_of(&current))?;
+    groups.push((current.hash, ranges))?;
     Ok(groups)
 }
 
 /// The maximal runs of the cuts' chunks, in order of hash, then start.
 pub fn runs_of(
     alloc: Global,
-    cuts: &[Cut],
+    cuts: Vec<Cut>,
 ) -> Result<Vec<(MerkleHash, Vec<MergedRange>)>, OutOfMemory>
-    requires { NoneEmpty cuts.now }
-    ensures runs { IfOk result (λ v. IsMerged (CutsHave cuts.now) (map group_of (map ranges_shown v.items))) }
-    ensures bytes { (f : List ℕ → ℕ → ℕ) → AllByRecursion (CutAt f) cuts.now → IfOk result (λ v. AllByRecursion (RangesAt f) (map ranges_shown v.items)) }
+    requires { NoneEmpty cuts.items }
+    ensures runs { IfOk result (λ v. IsMerged (CutsHave cuts.items) (map group_of (map ranges_shown v.items))) }
+    ensures bytes { (f : List ℕ → ℕ → ℕ) → AllByRecursion (CutAt f) cuts.items → IfOk result (λ v. AllByRecursion (RangesAt f) (map ranges_shown v.items)) }
 {
-    let sorted = in_order(alloc, cuts)?;
-    let merged = merge(alloc, &sorted)?;
-    let groups = by_hash(alloc, &merged)?;
+    let sorted = in_order(cuts);
+    let groups = merged_by_hash(alloc, &sorted)?;
     Ok(groups)
 }

@@ -4,7 +4,7 @@ use Rattle.std.specs.Global.{Vec}
 use Rattle.std.proofs.lemmas.Bool.{eqb-true, eqb-false}
 use Rattle.std.proofs.lemmas.List.{append_assoc, append-nil}
 use Rattle.xet_plan.specs.declared.runs.MergedRange.{MergedRange}
-use Rattle.xet_plan.specs.Groups.{Sizes, items_of, in_groups}
+use Rattle.xet_plan.specs.Groups.{Sizes, items_of}
 use Rattle.xet_plan.proofs.GroupLaws.{are_groups}
 use Rattle.xet_plan.proofs.groups.group.Goals as goal
 

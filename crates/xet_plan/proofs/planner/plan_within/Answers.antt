@@ -11,5 +11,5 @@ returns-clause-answer g c = λ known told.
     let xs = c.args.segments.now in
     let clip = interval c.args.start c.args.end in
     let a : (first_fault known clip xs ≡ None) × AllByRecursion (IsReadable known) (met_segments clip xs) × (c.in_ok-cuts.cuts.items ≡ map (cut_at known clip) (met_segments clip xs)) = c.in_ok-cuts.ensures.answer known told in
-    let p : IsPlanOf c.args.start c.in_ok-cuts.cuts.items c.in_ok-plan.plan = rw c.deref.ensures.value at c.in_ok-plan.ensures in
+    let p : IsPlanOf c.args.start c.in_ok-cuts.cuts.items c.in_ok-plan.plan = c.in_ok-plan.ensures in
     (a.0, plan_ok known clip xs c.in_ok-cuts.cuts.items c.in_ok-plan.plan a.1 a.2 p)
