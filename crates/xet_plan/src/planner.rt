@@ -67,6 +67,9 @@ fn copy_of(
     Ok(copy)
 }
 
+/// For how many cuts at most room is made ahead.
+const ROOM: usize = 4;
+
 /// What the bytes from a start up to an end take of each segment that they meet, in file order. The footers are asked once for
 /// neighbouring segments of one xorb.
 fn cuts_of<F: Footers>(
@@ -83,7 +86,7 @@ fn cuts_of<F: Footers>(
     ensures stays { F.told footers.new ≡ F.told footers.old }
     ensures cause { FailsOnlyByFault (F.faults footers.old) (F.faults footers.new) result }
 {
-    let mut cuts = Vec::new(alloc);
+    let mut cuts = Vec::with_capacity(alloc, segments.len().min(ROOM))?;
     let mut recent: Option<Recent> = None;
     let mut at: u64 = 0;
     for segment in segments {

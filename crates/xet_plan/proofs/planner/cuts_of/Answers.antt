@@ -82,5 +82,5 @@ returns-in_err-object-clause-refusals g c =
     let clip = interval c.args.start c.args.end in
     let more : drop i xs ≡ s ∷ drop (i + 1) xs = drop_read xs i s (omega arith) c.segment-item.is in
     let n : Names (met_segments clip xs) s.xorb_hash = named_first clip xs c.loop-segment.at s (drop (i + 1) xs) (meets-yes c.args.start c.args.end c.loop-segment.at s.unpacked_segment_bytes (omega arith)) (rw more at c.loop-segment.invariant.6) in
-    let p = err_from_is_err_and c.from_residual.result c.from_residual.ensures.1 in
+    let p = err_from_is_err_and c.from_residual-in_err-object.result c.from_residual-in_err-object.ensures.1 in
     rw (p.1, p.2) (footer_refused clip xs s.xorb_hash c.in_err-object.field-0.0 c.in_err-object.ensures.refusals n)
