@@ -1,5 +1,5 @@
 -- What is known while the met segments are cut one after the other.
-use Rattle.std.proofs.Common.{◌≡◌, ◌∙◌, ℕ, ◌+◌, ◌<◌, ◌≤◌, min, max, length, get_or, drop, List, [], ◌∷◌, ◌++◌, map, refl, ap, sym, true, false, Some, None, subst, inl, inr}
+use Rattle.std.proofs.Common.{◌≡◌, ◌∙◌, ℕ, ◌+◌, ◌<◌, ◌≤◌, min, max, length, get_or, drop, List, [], ◌∷◌, ◌++◌, map, refl, ap, sym, true, false, Some, None, subst, inl, inr, arith}
 use Rattle.std.proofs.lemmas.List.{append_assoc, append-nil, drop_more}
 use Rattle.std.proofs.lemmas.Bool.{le-ltb, lt-ltb}
 use Rattle.std.specs.List.{AllByRecursion}
@@ -101,3 +101,15 @@ footer_refused clip segments h (InvalidKey x) p n = absurd p
 footer_refused clip segments h (CacheError x) p n = absurd p
 footer_refused clip segments h (HttpStatus x) p n = absurd p
 footer_refused clip segments h OutOfMemory p n = tt
+
+-- past the end none is met
+met-none : (clip : Interval) (at : ℕ) (ss : List Segment) → clip.end ≤ at → met_from clip at ss ≡ []
+met-none clip at [] h = refl
+met-none clip at (s ∷ ss) h =
+    met-no clip at s ss (le-ltb (max clip.start at) (min clip.end (at + s.unpacked_segment_bytes)) (omega arith)) ∙ met-none clip (at + s.unpacked_segment_bytes) ss (omega arith)
+
+pub so_far_past : (known : Known) (clip : Interval) (segments : List Segment) (at : ℕ) (rest : List Segment) (cuts : List Cut) → clip.end ≤ at → SoFar known clip segments at rest cuts
+    → (first_fault known clip segments ≡ None) × AllByRecursion (IsReadable known) (met_segments clip segments) × (cuts ≡ map (cut_at known clip) (met_segments clip segments))
+so_far_past known clip segments at rest cuts l h =
+    let m : met_from clip at rest ≡ [] = met-none clip at rest l in
+    so_far_all known clip segments at cuts (record { fault = rw m at h.fault; readable = rw m at h.readable; done = rw m at h.done })

@@ -81,6 +81,7 @@ pub fn is_agreed(object: &XorbObject, segment: &Segment) -> bool
 fn skip(object: &XorbObject, first: u32, end: u32, place: u64, clip_start: u64) -> (u32, u64)
     requires order { first ≤ end }
     requires inside { end ≤ length object.now.lengths }
+    requires nonempty { All (λ n. 0 < n) object.now.lengths }
     requires fits { place + sum (slice_range object.now.lengths first end) < 2 ^ 64 }
     ensures from { first ≤ result.0 }
     ensures to { result.0 ≤ end }
@@ -89,6 +90,9 @@ fn skip(object: &XorbObject, first: u32, end: u32, place: u64, clip_start: u64) 
     ensures past { result.0 < end → clip_start < result.1 + slice_index object.now.lengths result.0 }
     ensures chunks { (h : List ℕ) (clip : Interval) → clip.start ≡ clip_start → filter (is_met clip) (lay h result.0 result.1 (slice_range object.now.lengths result.0 end)) ≡ filter (is_met clip) (lay h first place (slice_range object.now.lengths first end)) }
 {
+    if clip_start <= place {
+        return (first, place);
+    }
     let mut start = first;
     let mut at = place;
     let mut past = end;

@@ -91,6 +91,9 @@ fn cuts_of<F: Footers>(
     let mut at: u64 = 0;
     for segment in segments {
         let place = at;
+        if place >= end {
+            return Ok(cuts);
+        }
         at += u64::from(segment.unpacked_segment_bytes);
         if start.max(place) >= end.min(at) {
             continue;

@@ -7,7 +7,7 @@ use Rattle.xet_types.specs.declared.error.Refusal.TheVariants as refusals
 use Rattle.xet_plan.specs.Cuts.{CutAnswer, Names}
 use Rattle.xet_plan.specs.Places.{interval, place, fault, met_segments}
 use Rattle.xet_plan.proofs.Order.{all_push}
-use Rattle.xet_plan.proofs.SoFar.{named_skip, named_take, named_first, footer_refused, so_far_fault, so_far_skip, so_far_take, so_far_all, drop_read, meets-no, meets-yes}
+use Rattle.xet_plan.proofs.SoFar.{named_skip, named_take, named_first, footer_refused, so_far_fault, so_far_skip, so_far_take, so_far_all, so_far_past, drop_read, meets-no, meets-yes}
 use Rattle.xet_plan.proofs.planner.cuts_of.Goals as goal
 
 pub loop-segment-preserved-then-max-min : goal.loop-segment-preserved-then-max-min
@@ -51,6 +51,10 @@ loop-segment-preserved g c =
       rw c.from-at.ensures
           (named_take (interval c.args.start c.args.end) xs c.loop-segment.at s (drop (i + 1) xs) (meets-yes c.args.start c.args.end c.loop-segment.at s.unpacked_segment_bytes (omega arith)) (rw more at c.loop-segment.invariant.6)),
     )
+
+pub returns-then-place-end-clause-answer : goal.returns-then-place-end-clause-answer
+returns-then-place-end-clause-answer g c = λ known told.
+    so_far_past known (interval c.args.start c.args.end) c.args.segments.now c.loop-segment.at (drop c.loop-segment.segment-index c.args.segments.now) c.loop-segment.cuts.items (omega arith) (c.loop-segment.invariant.3 known told)
 
 pub returns-clause-answer : goal.returns-clause-answer
 returns-clause-answer g c = λ known told.
