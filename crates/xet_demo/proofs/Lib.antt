@@ -6,5 +6,5 @@ pub mod OneWord
 pub mod TermWords
 pub mod Making
 pub mod HexPairs
-pub mod HexDigits
+pub mod HexBlocks
 pub mod Quiet

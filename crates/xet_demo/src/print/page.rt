@@ -21,20 +21,21 @@ const PIECE: usize = 16_384;
 /// Once the sink has failed nothing more is written. After [`Page::new`] no memory is taken.
 #[derive(Drop)]
 pub struct Page {
-    text: Vec<u8>,
+    /// `ROOM` bytes, of which those in use come first.
+    bytes: Vec<u8>,
+    used: usize,
     failed: bool,
 }
 
 impl Model for Page {
-    ghost use Rattle.std.specs.Prelude.{◌≤◌};
-    ghost use Rattle.std.specs.Vec.{vec_capacity};
+    ghost use Rattle.std.specs.Prelude.{◌≡◌, ◌≤◌, length, take};
     ghost use Rattle.xet_demo.specs.Pages.{PageText};
 
     ghost Value = { PageText };
 
-    ghost view = { λ p. record { text = p.text.items; failed = p.failed } };
+    ghost view = { λ p. record { text = take p.used p.bytes.items; failed = p.failed } };
 
-    ghost invariant = { λ p. 65536 ≤ vec_capacity p.text };
+    ghost invariant = { λ p. (length p.bytes.items ≡ 65536) × (p.used ≤ 65536) };
 }
 
 /// Writes all bytes, in as many calls as the sink needs.
@@ -55,7 +56,8 @@ impl Page {
         ensures { IfOk result (λ page. page ≡ blank) }
     {
         Ok(Page {
-            text: Vec::with_capacity(alloc, ROOM)?,
+            bytes: vec![in alloc; 0u8; ROOM]?,
+            used: 0,
             failed: false,
         })
     }
@@ -73,13 +75,13 @@ impl Page {
         ensures empty { self.new.text ≡ [] }
     {
         if self.failed {
-            self.text.clear();
+            self.used = 0;
             return;
         }
-        match write_all(sink, self.text.as_slice()) {
-            Ok(()) => self.text.clear(),
+        match write_all(sink, &self.bytes.as_slice()[..self.used]) {
+            Ok(()) => self.used = 0,
             Err(Failed) => {
-                self.text.clear();
+                self.used = 0;
                 self.failed = true;
             }
         }
@@ -91,10 +93,9 @@ impl Page {
         requires { length self.old.text + length bytes.now ≤ ROOM }
         ensures { self.new ≡ with_text self.old (self.old.text ++ bytes.now) }
     {
-        match self.text.extend_from_slice(bytes) {
-            Ok(()) => {}
-            Err(_) => unreachable!(),
-        }
+        let end = self.used + bytes.len();
+        self.bytes.as_mut_slice()[self.used..end].copy_from_slice(bytes);
+        self.used = end;
     }
 
     /// Prints bytes.
@@ -102,7 +103,7 @@ impl Page {
     pub fn put<K: Sink>(&mut self, sink: &mut K, bytes: &[u8])
         ensures { Prints (output (K.taken sink.old) (K.faults sink.old) self.old) (output (K.taken sink.new) (K.faults sink.new) self.new) bytes.now }
     {
-        if self.text.len() + bytes.len() <= ROOM {
+        if self.used + bytes.len() <= ROOM {
             self.add(bytes);
         } else {
             self.put_long(sink, bytes);
@@ -125,8 +126,21 @@ impl Page {
         self.add(rest);
     }
 
-    /// Prints a number in decimal digits.
+    /// Prints a number in decimal digits. Most have one, which needs no buffer.
+    #[inline(always)]
     pub fn put_number<K: Sink>(&mut self, sink: &mut K, number: u64)
+        ensures { Prints (output (K.taken sink.old) (K.faults sink.old) self.old) (output (K.taken sink.new) (K.faults sink.new) self.new) (decimal number) }
+    {
+        if number < 10 {
+            self.put(sink, &[b'0' + number as u8]);
+        } else {
+            self.put_digits(sink, number);
+        }
+    }
+
+    /// Prints the decimal digits of a number, however many they are.
+    #[inline(never)]
+    fn put_digits<K: Sink>(&mut self, sink: &mut K, number: u64)
         ensures { Prints (output (K.taken sink.old) (K.faults sink.old) self.old) (output (K.taken sink.new) (K.faults sink.new) self.new) (decimal number) }
     {
         let mut buffer = Buffer::new();
@@ -138,11 +152,9 @@ impl Page {
         requires { length self.old.text + 2 * length bytes.now ≤ ROOM }
         ensures { self.new ≡ with_text self.old (self.old.text ++ encode_lower bytes.now) }
     {
-        let start = self.text.len();
-        match self.text.resize(start + 2 * bytes.len(), 0) {
-            Ok(()) => spell(bytes, &mut self.text.as_mut_slice()[start..]),
-            Err(_) => unreachable!(),
-        }
+        let end = self.used + 2 * bytes.len();
+        spell(bytes, &mut self.bytes.as_mut_slice()[self.used..end]);
+        self.used = end;
     }
 
     /// Prints few bytes as hexadecimal digits.
@@ -150,7 +162,7 @@ impl Page {
         requires { length bytes.now ≤ PIECE }
         ensures { Prints (output (K.taken sink.old) (K.faults sink.old) self.old) (output (K.taken sink.new) (K.faults sink.new) self.new) (encode_lower bytes.now) }
     {
-        if self.text.len() + 2 * bytes.len() > ROOM {
+        if self.used + 2 * bytes.len() > ROOM {
             self.flush(sink);
         }
         self.add_hex(bytes);
