@@ -1,12 +1,14 @@
 -- A fetch from what its calls answer.
-use Rattle.std.proofs.Common.{◌≡◌, ◌∙◌, ℕ, false, Bool, Option, Some, None, Result, Ok, Err, refl, sym, ap, subst}
+use Rattle.std.proofs.Common.{◌≡◌, ◌∙◌, ℕ, false, Bool, List, Option, Some, None, Result, Ok, Err, refl, sym, ap, subst}
 use Rattle.std.specs.FinMap.{get}
 use Rattle.xet_types.specs.Faults.{refusal_of}
 use Rattle.xet_types.specs.declared.error.ClientError.{ClientError}
 use Rattle.xet_types.specs.declared.error.ClientError.TheVariants as errors
 use Rattle.xet_types.specs.declared.error.Refusal.{Refusal}
 use Rattle.xet_types.specs.declared.error.Refusal.TheVariants.{FormatError, InvalidRange, InvalidArguments, FileNotFound, XORBNotFound, PresignedUrlExpirationError, IOError, Other, InvalidKey, CacheError, HttpStatus}
+use Rattle.xet_types.specs.declared.record.XorbRangeDescriptor.{XorbRangeDescriptor}
 use Rattle.xet_store.specs.Answered.{Answered, AnsweredErr}
+use Rattle.xet_store.specs.Told.{Asks, AsksErr}
 use Rattle.xet_store.specs.StoreModel.{StoreModel}
 use Rattle.xet_service.specs.declared.step.Act.TheVariants.{Fetch}
 use Rattle.xet_service.specs.declared.reply.Reply.{Reply}
@@ -59,3 +61,29 @@ module _ (m : StoreModel) (reads after : Reads) (next at read link : ℕ) (r : O
   pub fetch_does : (result : Result Reply ClientError) → (result ≡ Err errors.IOError → ⊥) → Answered result (λ x. TakesAt reads read link body x after) (after ≡ reads) → Does (Fetches (state m reads next) read link at) (state m reads next) result (state m after next)
   fetch_does (Ok reply) never h = by (Ok reply) h
   fetch_does (Err e) never h = err_does (refusal_of e) (λ o. never (ap Err (failure_is e o))) h
+
+-- a link whose body isn't sent
+module _ (m : StoreModel) (reads : Reads) (next at read link : ℕ) (r : OpenRead) (l : ReadLink) (there : Some r ≡ get reads read) (left : Some l ≡ left_link r.reader.links link) (fresh : is_expired at r.stamp m.expiration ≡ false) where
+  unsent : (why : Refusal) → SendsStored m l.hash (asked_bytes l.ranges) (Err why) → Fetches (state m reads next) read link at (Err why) (state m reads next)
+  unsent why h =
+      let bodied : FetchesSent m reads read link r l (Err why) reads = record { body = Err why; sent = h; brings = refl } in
+      let aged : FetchesIf m reads read link r l (is_expired at r.stamp m.expiration) (Err why) reads = subst (λ (b : Bool). FetchesIf m reads read link r l b (Err why) reads) (sym fresh) bodied in
+      let linked : FetchesLink m reads read link at r (left_link r.reader.links link) (Err why) reads = subst (λ (o : Option ReadLink). FetchesLink m reads read link at r o (Err why) reads) left aged in
+      record { reads = subst (λ (o : Option OpenRead). FetchesRead m reads read link at o (Err why) reads) there linked; rest = refl }
+
+  unsent_err : (o : Option Refusal) → AsksErr {T = Body} (SendsStored m l.hash (asked_bytes l.ranges)) o → DoesErr (Fetches (state m reads next) read link at) (state m reads next) o (state m reads next)
+  unsent_err None h = refl
+  unsent_err (Some IOError) h = refl
+  unsent_err (Some (FormatError f)) h = unsent (FormatError f) h
+  unsent_err (Some InvalidRange) h = unsent InvalidRange h
+  unsent_err (Some InvalidArguments) h = unsent InvalidArguments h
+  unsent_err (Some (FileNotFound f)) h = unsent (FileNotFound f) h
+  unsent_err (Some (XORBNotFound f)) h = unsent (XORBNotFound f) h
+  unsent_err (Some PresignedUrlExpirationError) h = unsent PresignedUrlExpirationError h
+  unsent_err (Some Other) h = unsent Other h
+  unsent_err (Some InvalidKey) h = unsent InvalidKey h
+  unsent_err (Some CacheError) h = unsent CacheError h
+  unsent_err (Some (HttpStatus n)) h = unsent (HttpStatus n) h
+
+  pub unsent_does : (ranges : List XorbRangeDescriptor) (e : ClientError) → ranges ≡ l.ranges → Asks {T = Body} (SendsStored m l.hash (asked_bytes ranges)) (Err e) → Does (Fetches (state m reads next) read link at) (state m reads next) (Err e) (state m reads next)
+  unsent_does ranges e same h = unsent_err (refusal_of e) (subst (λ (rs : List XorbRangeDescriptor). Asks {T = Body} (SendsStored m l.hash (asked_bytes rs)) (Err e)) same h)

@@ -3,7 +3,6 @@ pub mod RangeOrder
 pub mod ReaderBodies
 pub mod ReaderLinks
 pub mod ReaderTerms
-pub mod Given
 pub mod Doing
 pub mod Serving
 pub mod Running

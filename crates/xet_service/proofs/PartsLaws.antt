@@ -1,5 +1,5 @@
 -- What the code that cuts a body into parts and reads them owes, from what its calls answer.
-use Rattle.std.proofs.Common.{◌≡◌, ◌∙◌, ℕ, zero, suc, ◌<◌, eqb, eq-eqb, true, false, List, [], ◌∷◌, ◌++◌, length, map, drop, get_or, Option, Some, None, Result, Ok, Err, refl, sym, ap, subst, arith, inl, inr}
+use Rattle.std.proofs.Common.{◌≡◌, ◌∙◌, ℕ, zero, suc, ◌<◌, eqb, eq-eqb, Bool, true, false, List, [], ◌∷◌, ◌++◌, length, map, drop, get_or, Option, Some, None, Result, Ok, Err, refl, sym, ap, subst, arith, inl, inr}
 use Rattle.std.specs.Prelude.{⊤}
 use Rattle.std.specs.Global.{Vec}
 use Rattle.std.proofs.lemmas.Bool.{and_parts, eqb-true}
@@ -16,9 +16,10 @@ use Rattle.xet_xorb.specs.XorbBytes.{AreWholeChunks, ReadsWholeChunks}
 use Rattle.xet_wire.specs.Multipart.{Part, content_of, IsReadAs, ReadsMultipart}
 use Rattle.xet_store.specs.Answered.{Answered, AnsweredErr}
 use Rattle.xet_store.specs.StoreModel.{Chunks}
+use Rattle.xet_service.specs.declared.reader.held.HeldTerm.{HeldTerm}
 use Rattle.xet_service.specs.declared.reader.link.ReadLink.{ReadLink}
-use Rattle.xet_service.specs.Reading.{IsMultipart, bytes_in, range_of_part, range_bytes, have_counts, IsReadInParts, IsCutInto, HasParts, AreSized, AreAllWhole, Brings}
-use Rattle.xet_service.specs.ReadingParts.{is_of, are_of, are_sized, CutsApart, CutsInto, CutsParts, ReadsParts}
+use Rattle.xet_service.specs.Reading.{IsMultipart, bytes_in, range_of_part, range_bytes, have_counts, fits, IsReadInParts, IsCutInto, HasParts, AreSized, AreAllWhole, Brings}
+use Rattle.xet_service.specs.ReadingParts.{is_of, are_of, are_sized, CutsApart, ReadsParts, BringsCut}
 use Rattle.xet_service.proofs.Parted.{cut_once}
 
 -- ---- ranges and lengths
@@ -124,51 +125,6 @@ module _ (rs : List XorbRangeDescriptor) (content_type body : List ℕ) where
   pub like_parts : (read : Vec Part) (parts : List (List ℕ)) → IsReadAs content_type body read.items → are_of rs read.items ≡ true → parts ≡ map content_of read.items → IsReadInParts rs content_type body parts
   like_parts read parts is e contents = record { read = read.items; is = is; same = are_same rs read.items e; contents = contents }
 
-  -- a refusal of the cut is one of the parts
-  pub cut_refused : (e : ClientError) → Answered {T = List (List ℕ)} (Err e) (CutsInto rs content_type body) ⊤ → Answered {T = List (List ℕ)} (Err e) (CutsParts rs content_type body) ⊤
-  cut_refused e h = answers_so (CutsInto rs content_type body) (CutsParts rs content_type body) e of h
-    where
-      of : (why : Refusal) → CutsInto rs content_type body (Err why) → CutsParts rs content_type body (Err why)
-      of Other k = λ parts has. k parts has.cut
-      of (FormatError f) k = k
-      of InvalidRange k = k
-      of InvalidArguments k = k
-      of (FileNotFound f) k = k
-      of (XORBNotFound f) k = k
-      of PresignedUrlExpirationError k = k
-      of IOError k = k
-      of InvalidKey k = k
-      of CacheError k = k
-      of (HttpStatus n) k = k
-
-  -- a cut in parts is one of a body whose type says so
-  pub apart_into : (result : Result (List (List ℕ)) ClientError) → IsMultipart content_type → Answered result (CutsApart rs content_type body) ⊤ → Answered result (CutsInto rs content_type body) ⊤
-  apart_into (Ok parts) is h = inl (is, h)
-  apart_into (Err e) is h = answers_so (CutsApart rs content_type body) (CutsInto rs content_type body) e of h
-    where
-      none : (parts : List (List ℕ)) → ((parts : List (List ℕ)) → IsReadInParts rs content_type body parts → ⊥) → IsCutInto rs content_type body parts → ⊥
-      none parts k (inl j) = k parts j.1
-      none parts k (inr j) = j.0 is
-
-      of : (why : Refusal) → CutsApart rs content_type body (Err why) → CutsInto rs content_type body (Err why)
-      of Other k = λ parts j. none parts k j
-      of (FormatError f) k = k
-      of InvalidRange k = k
-      of InvalidArguments k = k
-      of (FileNotFound f) k = k
-      of (XORBNotFound f) k = k
-      of PresignedUrlExpirationError k = k
-      of IOError k = k
-      of InvalidKey k = k
-      of CacheError k = k
-      of (HttpStatus n) k = k
-
-  -- parts that aren't as long as their ranges
-  pub unsized : (parts : List (List ℕ)) → IsCutInto rs content_type body parts → are_sized rs parts ≡ false → CutsParts rs content_type body (Err Other)
-  unsized parts cut e = λ others has.
-      let same : others ≡ parts = cut_once rs content_type body others parts has.cut cut in
-      let f : true ≡ false = sym (long_are rs others has.sized) ∙ ap (are_sized rs) same ∙ e in cc
-
 -- ---- whole parts
 
 pub whole_more : (done : List (List ℕ)) (got : List Chunks) (p : List ℕ) (c : Chunks) → AreAllWhole done got → AreWholeChunks p c → AreAllWhole (done ++ p ∷ []) (got ++ c ∷ [])
@@ -204,12 +160,51 @@ part_refused parts i p (errors.HttpStatus n) l is h = absurd h
 
 -- ---- a link's chunks
 
+-- parts that aren't all whole chunks
+pub chunks_refused : (l : ReadLink) (parts : List (List ℕ)) (e : ClientError) → AreSized l.ranges parts → Answered {T = List Chunks} (Err e) (ReadsParts parts) ⊤ → Answered {T = List Chunks} (Err e) (BringsCut l parts) ⊤
+chunks_refused l parts e sized h = answers_so (ReadsParts parts) (BringsCut l parts) e of h
+  where
+    of : (why : Refusal) → ReadsParts parts (Err why) → BringsCut l parts (Err why)
+    of (FormatError faults.Xorb) k = (sized, k)
+    of (FormatError faults.Shard) k = absurd k
+    of (FormatError faults.Segment) k = absurd k
+    of (FormatError faults.Table) k = absurd k
+    of (FormatError faults.Body) k = absurd k
+    of Other k = absurd k
+    of InvalidRange k = k
+    of InvalidArguments k = k
+    of (FileNotFound f) k = k
+    of (XORBNotFound f) k = k
+    of PresignedUrlExpirationError k = k
+    of IOError k = k
+    of InvalidKey k = k
+    of CacheError k = k
+    of (HttpStatus n) k = k
+
+-- parts whose chunks fit, and such whose chunks don't
+pub fits_so : (l : ReadLink) (parts : List (List ℕ)) (ranges : List XorbRangeDescriptor) (held : List HeldTerm) (shown got : List Chunks) (b : Bool) → AreSized l.ranges parts → AreAllWhole parts got → ranges ≡ l.ranges → held ≡ l.held → shown ≡ got → b ≡ fits ranges held shown → b ≡ true
+    → BringsCut l parts (Ok got)
+fits_so l parts ranges held shown got b sized whole rs hs gs is e = let fit : fits l.ranges l.held got ≡ true = cc in (sized, (whole, fit))
+
+pub misfits_so : (l : ReadLink) (parts : List (List ℕ)) (ranges : List XorbRangeDescriptor) (held : List HeldTerm) (shown got : List Chunks) (b : Bool) → AreSized l.ranges parts → AreAllWhole parts got → ranges ≡ l.ranges → held ≡ l.held → shown ≡ got → b ≡ fits ranges held shown → b ≡ false
+    → BringsCut l parts (Err (FormatError faults.Body))
+misfits_so l parts ranges held shown got b sized whole rs hs gs is e = let misfit : fits l.ranges l.held got ≡ false = cc in (sized, (got, (whole, misfit)))
+
+-- parts that aren't as long as their ranges
+pub unsized : (l : ReadLink) (parts : List (List ℕ)) → are_sized l.ranges parts ≡ false → AreSized l.ranges parts → ⊥
+unsized l parts e sized = let f : true ≡ false = sym (long_are l.ranges parts sized) ∙ e in absurd cc
+
 module _ (l : ReadLink) (content_type body : List ℕ) where
-  pub parts_refused : (e : ClientError) → Answered {T = List (List ℕ)} (Err e) (CutsParts l.ranges content_type body) ⊤ → Answered {T = List Chunks} (Err e) (Brings l content_type body) ⊤
-  parts_refused e h = answers_so (CutsParts l.ranges content_type body) (Brings l content_type body) e of h
+  none_apart : (parts : List (List ℕ)) → IsMultipart content_type → ((parts : List (List ℕ)) → IsReadInParts l.ranges content_type body parts → ⊥) → IsCutInto l.ranges content_type body parts → ⊥
+  none_apart parts is k (inl j) = k parts j.1
+  none_apart parts is k (inr j) = j.0 is
+
+  -- a body that can't be cut in parts
+  pub split_refused : (e : ClientError) → IsMultipart content_type → Answered {T = List (List ℕ)} (Err e) (CutsApart l.ranges content_type body) ⊤ → Answered {T = List Chunks} (Err e) (Brings l content_type body) ⊤
+  split_refused e is h = answers_so (CutsApart l.ranges content_type body) (Brings l content_type body) e of h
     where
-      of : (why : Refusal) → CutsParts l.ranges content_type body (Err why) → Brings l content_type body (Err why)
-      of Other k = k
+      of : (why : Refusal) → CutsApart l.ranges content_type body (Err why) → Brings l content_type body (Err why)
+      of Other k = λ parts has. none_apart parts is k has.cut
       of (FormatError f) k = absurd k
       of InvalidRange k = k
       of InvalidArguments k = k
@@ -221,16 +216,18 @@ module _ (l : ReadLink) (content_type body : List ℕ) where
       of CacheError k = k
       of (HttpStatus n) k = k
 
-  pub chunks_refused : (parts : List (List ℕ)) (e : ClientError) → HasParts l.ranges content_type body parts → Answered {T = List Chunks} (Err e) (ReadsParts parts) ⊤ → Answered {T = List Chunks} (Err e) (Brings l content_type body) ⊤
-  chunks_refused parts e has h = answers_so (ReadsParts parts) (Brings l content_type body) e of h
+  -- what its parts bring, a body brings
+  pub cut_brings : (parts : List (List ℕ)) (result : Result (List Chunks) ClientError) → IsCutInto l.ranges content_type body parts → Answered result (BringsCut l parts) ⊤ → Answered result (Brings l content_type body) ⊤
+  cut_brings parts (Ok got) cut h = record { parts = parts; has = record { cut = cut; sized = h.0 }; whole = h.1.0; fit = h.1.1 }
+  cut_brings parts (Err e) cut h = answers_so (BringsCut l parts) (Brings l content_type body) e of h
     where
-      of : (why : Refusal) → ReadsParts parts (Err why) → Brings l content_type body (Err why)
-      of (FormatError faults.Xorb) k = record { parts = parts; has = has; none = k }
+      of : (why : Refusal) → BringsCut l parts (Err why) → Brings l content_type body (Err why)
+      of Other k = λ others has. k (subst (λ (p : List (List ℕ)). AreSized l.ranges p) (cut_once l.ranges content_type body others parts has.cut cut) has.sized)
+      of (FormatError faults.Xorb) k = record { parts = parts; has = record { cut = cut; sized = k.0 }; none = k.1 }
+      of (FormatError faults.Body) k = record { parts = parts; has = record { cut = cut; sized = k.0 }; got = k.1.0; whole = k.1.1.0; misfit = k.1.1.1 }
       of (FormatError faults.Shard) k = absurd k
       of (FormatError faults.Segment) k = absurd k
       of (FormatError faults.Table) k = absurd k
-      of (FormatError faults.Body) k = absurd k
-      of Other k = absurd k
       of InvalidRange k = k
       of InvalidArguments k = k
       of (FileNotFound f) k = k

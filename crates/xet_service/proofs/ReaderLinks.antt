@@ -1,10 +1,15 @@
 -- A reader's links by number.
-use Rattle.std.proofs.Common.{◌≡◌, ℕ, zero, suc, ◌+◌, ◌<◌, Bool, true, false, cond, List, [], ◌∷◌, length, get_or, set, Option, Some, None, Ok, refl, sym, ap, subst, ◌∙◌, arith}
-use Rattle.std.specs.Prelude.{slice_get, is_none}
+use Rattle.std.proofs.Common.{◌≡◌, ℕ, zero, suc, ◌+◌, ◌-◌, ◌<◌, ◌≤◌, Bool, true, false, cond, List, [], ◌∷◌, length, drop, get_or, set, Option, Some, None, Ok, refl, sym, ap, subst, ◌∙◌, arith}
+use Rattle.std.specs.Prelude.{slice_get, slice_set, slice_range, is_none, is_some}
+use Rattle.std.specs.List.{flat_map, concat}
+use Rattle.std.proofs.lemmas.List.{append-nil, take_all}
 use Rattle.std.proofs.lemmas.List.Sums.{sum_by-set}
 use Rattle.xet_store.specs.StoreModel.{Chunks}
+use Rattle.xet_store.specs.Plans.{cut_to}
+use Rattle.xet_service.specs.declared.reader.held.HeldTerm.{HeldTerm}
 use Rattle.xet_service.specs.declared.reader.link.ReadLink.{ReadLink}
-use Rattle.xet_service.specs.Reading.{if_left, left_link, left_one, count_left, with_got, BringsTo, Gives}
+use Rattle.xet_service.specs.Reading.{Reading, if_left, left_link, is_link_left, left_one, count_left, with_got, take_link, nth_chunks, got_of_link, got_for, cut_of_range, held_text, BringsTo, Gives}
+use Rattle.xet_service.specs.ReadingParts.{TakesAll, IsWhole}
 
 get_below : {X : Type 0} (xs : List X) (i : ℕ) (x : X) → slice_get xs i ≡ Some x → i < length xs
 get_below [] i x e = absurd cc
@@ -54,3 +59,100 @@ count_got ls n got h =
 -- where a read gave chunks, one link fewer is left
 pub count_given : (ls now : List ReadLink) (n : ℕ) (content_type body : List ℕ) (got : List Chunks) → ls ≡ now → Gives now n content_type body (Ok got) → count_left (with_got ls n (slice_get ls n) got) + 1 ≡ count_left ls
 count_given ls now n content_type body got same h = count_got ls n got (subst (λ (xs : List ReadLink). IsLeftAt xs n) (sym same) (gives_left now n content_type body got h))
+
+-- a link that gave chunks is left
+pub given_left : (o : Option ReadLink) (content_type body : List ℕ) (got : List Chunks) → BringsTo o content_type body (Ok got) → is_some o ≡ true
+given_left None content_type body got h = absurd cc
+given_left (Some l) content_type body got h = refl
+
+is_left : (ls : List ReadLink) (n : ℕ) (o : Option ReadLink) → slice_get ls n ≡ o → is_some (if_left o) ≡ true → IsLeftAt ls n
+is_left ls n None e h = absurd cc
+is_left ls n (Some x) e h = of (is_none x.got) refl h
+  where
+    of : (b : Bool) → is_none x.got ≡ b → is_some (cond b (Some x) None) ≡ true → IsLeftAt ls n
+    of true t h = record { link = x; there = e; left = t }
+    of false t h = absurd cc
+
+pub left_here : (ls : List ReadLink) (n : ℕ) → is_link_left ls n ≡ true → IsLeftAt ls n
+left_here ls n h = is_left ls n (slice_get ls n) refl h
+
+-- ---- the links once one of them has brought its chunks
+
+set_there : (ls : List ReadLink) (n : ℕ) (l m : ReadLink) → slice_get ls n ≡ Some l → slice_get (slice_set ls n m) n ≡ Some m
+set_there [] n l m e = absurd cc
+set_there (x ∷ ls) zero l m e = refl
+set_there (x ∷ ls) (suc n) l m e = set_there ls n l m e
+
+set_other : (ls : List ReadLink) (n k : ℕ) (m : ReadLink) → (k ≡ n → ⊥) → slice_get (slice_set ls n m) k ≡ slice_get ls k
+set_other [] n k m other = refl
+set_other (x ∷ ls) zero zero m other = absurd (other refl)
+set_other (x ∷ ls) zero (suc k) m other = refl
+set_other (x ∷ ls) (suc n) zero m other = refl
+set_other (x ∷ ls) (suc n) (suc k) m other = set_other ls n k m (λ e. other (ap (λ (i : ℕ). suc i) e))
+
+-- it has the chunks
+pub filled_here : (ls : List ReadLink) (n : ℕ) (got : List Chunks) (l : ReadLink) → slice_get ls n ≡ Some l → slice_get (with_got ls n (slice_get ls n) got) n ≡ Some (record l { got = Some got })
+filled_here ls n got l there =
+    ap (λ (o : Option ReadLink). slice_get (with_got ls n o got) n) there ∙ set_there ls n l (record l { got = Some got }) there
+
+-- the others have what they had
+pub filled_other : (ls : List ReadLink) (n k : ℕ) (got : List Chunks) → (k ≡ n → ⊥) → slice_get (with_got ls n (slice_get ls n) got) k ≡ slice_get ls k
+filled_other ls n k got other = of (slice_get ls n)
+  where
+    of : (o : Option ReadLink) → slice_get (with_got ls n o got) k ≡ slice_get ls k
+    of None = refl
+    of (Some l) = set_other ls n k (record l { got = Some got }) other
+
+pub filled_none : (ls : List ReadLink) (n k : ℕ) (got : List Chunks) → slice_get ls k ≡ None → slice_get (with_got ls n (slice_get ls n) got) k ≡ None
+filled_none ls n k got none = of (slice_get ls n) refl
+  where
+    at_set : (xs : List ReadLink) (i j : ℕ) (m : ReadLink) → slice_get xs j ≡ None → slice_get (slice_set xs i m) j ≡ None
+    at_set [] i j m e = refl
+    at_set (x ∷ xs) zero zero m e = absurd cc
+    at_set (x ∷ xs) zero (suc j) m e = e
+    at_set (x ∷ xs) (suc i) zero m e = e
+    at_set (x ∷ xs) (suc i) (suc j) m e = at_set xs i j m e
+
+    of : (o : Option ReadLink) → slice_get ls n ≡ o → slice_get (with_got ls n o got) k ≡ None
+    of None e = none
+    of (Some l) e = at_set ls n k (record l { got = Some got }) none
+
+-- past the last there is none
+pub filled_past : (ls : List ReadLink) (got : List Chunks) → with_got ls (length ls) (slice_get ls (length ls)) got ≡ ls
+filled_past ls got = ap (λ (o : Option ReadLink). with_got ls (length ls) o got) (past ls)
+  where
+    past : (xs : List ReadLink) → slice_get xs (length xs) ≡ None
+    past [] = refl
+    past (x ∷ xs) = past xs
+
+-- ---- a read of one range
+
+all_of : {X : Type 0} (xs : List X) (a b : ℕ) → a ≡ 0 → length xs ≤ b → slice_range xs a b ≡ xs
+all_of xs a b e long = ap (λ (i : ℕ). slice_range xs i b) e ∙ take_all (b - 0) xs (omega (arith, long))
+
+pub one_item : (xs : List HeldTerm) (h : HeldTerm) → length xs ≡ 1 → h ≡ get_or xs 0 h → xs ≡ h ∷ []
+one_item [] h e is = absurd (omega (arith, e))
+one_item (x ∷ []) h e is = ap (λ (y : HeldTerm). y ∷ []) (sym is)
+one_item (x ∷ (y ∷ xs)) h e is = absurd (omega (arith, e))
+
+pub none_by : (o : Option ℕ) (b : Bool) → b ≡ is_some o → b ≡ false → o ≡ None
+none_by None b is e = refl
+none_by (Some k) b is e = absurd cc
+
+-- the read of a term that has all chunks of a link's first range
+pub whole_read : (r : Reading) (n : ℕ) (got : List Chunks) (h : HeldTerm) → r.terms ≡ h ∷ [] → r.offset ≡ 0 → r.length ≡ None → is_link_left r.links n ≡ true → TakesAll h n (length (nth_chunks got 0)) → IsWhole (take_link r n got) got
+whole_read r n got h terms offset none left all =
+    let at = left_here r.links n left in
+    let filled = with_got r.links n (slice_get r.links n) got in
+    let brought : got_for filled h ≡ nth_chunks got 0 =
+    ap (λ (k : ℕ). got_of_link (slice_get filled k) h.range.number) all.0
+    ∙ ap (λ (o : Option ReadLink). got_of_link o h.range.number) (filled_here r.links n got at.link at.there)
+    ∙ ap (λ (k : ℕ). nth_chunks got k) all.1.0 in
+    let first : h.term.range.start - h.range.chunks.start ≡ 0 = omega (arith, all.1.1.0) in
+    let cut : cut_of_range h (got_for filled h) ≡ nth_chunks got 0 =
+    ap (λ (cs : Chunks). cut_of_range h cs) brought ∙ all_of (nth_chunks got 0) (h.term.range.start - h.range.chunks.start) (h.term.range.end - h.range.chunks.start) first all.1.1.1 in
+    ap (λ (l : Option ℕ). cut_to l (drop r.offset (flat_map (held_text filled) r.terms))) none
+    ∙ ap (λ (k : ℕ). drop k (flat_map (held_text filled) r.terms)) offset
+    ∙ ap (λ (hs : List HeldTerm). flat_map (held_text filled) hs) terms
+    ∙ append-nil (held_text filled h)
+    ∙ ap (λ (cs : Chunks). concat cs) cut

@@ -1,5 +1,6 @@
 -- What the service's own calls leave.
-use Rattle.std.proofs.Common.{◌≡◌, ℕ, zero, suc, ◌+◌, ◌-◌, ◌<◌, Bool, true, false, cond, eqb, List, [], ◌∷◌, length, Option, Some, None, Result, Ok, Err, Ordering, refl, sym, ap, ◌∙◌, arith}
+use Rattle.std.specs.Prelude.{⊤}
+use Rattle.std.proofs.Common.{◌≡◌, ℕ, zero, suc, ◌+◌, ◌-◌, ◌<◌, ◌≤◌, Bool, true, false, cond, eqb, List, [], ◌∷◌, length, Option, Some, None, Result, Ok, Err, Ordering, refl, sym, ap, ◌∙◌, arith}
 use Rattle.std.specs.declared.cmp.Ordering.TheVariants.{Less, Equal, Greater}
 use Rattle.std.specs.Ordering.{nat_cmp, eq_by_cmp, is_eq}
 use Rattle.std.specs.Cmp.{tied_itself}
@@ -14,7 +15,7 @@ use Rattle.xet_types.specs.declared.error.Refusal.TheVariants.{FormatError, Inva
 use Rattle.xet_types.specs.declared.range.Range.{Range}
 use Rattle.xet_types.specs.declared.range._F.{_F}
 use Rattle.xet_store.specs.Answered.{Answered, AnsweredErr}
-use Rattle.xet_store.specs.StoreModel.{StoreModel}
+use Rattle.xet_store.specs.StoreModel.{StoreModel, Chunks}
 use Rattle.xet_store.specs.Responses.{RespondsBy}
 use Rattle.xet_service.specs.declared.step.PlanVersion.{PlanVersion}
 use Rattle.xet_service.specs.Links.{answer_of}
@@ -25,12 +26,12 @@ use Rattle.xet_service.specs.declared.reply.Reply.{Reply}
 use Rattle.xet_service.specs.declared.reply.Reply.TheVariants.{Done, Planned, Fetched, Finished}
 use Rattle.xet_service.specs.declared.read.OpenRead.{OpenRead}
 use Rattle.xet_service.specs.Links.{planned_links}
-use Rattle.xet_service.specs.Reading.{Reading, count_left, Accepts, Takes, bytes_if, bytes_read}
+use Rattle.xet_service.specs.Reading.{Reading, left_link, is_link_left, count_left, take_link, Gives, bytes_read}
 use Rattle.xet_service.specs.ReadingPlans.{can_open, reading_of}
 use Rattle.xet_service.specs.World.{State, Reads, state}
 use Rattle.xet_service.specs.Steps.{Outcome, refuses, used_up, open_links, open_plan, PlansBy, Does, DoesErr, no_note, fetch_done, with_reader, abandon_step, abandon_read}
-use Rattle.xet_service.specs.Requests.{IsOpenAt, IsWantedAt, TakesAt}
-use Rattle.xet_service.proofs.ReaderLinks.{count_given}
+use Rattle.xet_service.specs.Requests.{IsOpenAt, IsWantedAt, IsLinkLeftAt, PutsAt, TakesAt}
+use Rattle.xet_service.proofs.ReaderLinks.{given_left, count_given}
 
 abbrev some_read : OpenRead → Option OpenRead
 some_read r = Some r
@@ -53,18 +54,6 @@ put_twice : (m : Reads) (k : ℕ) (a b : OpenRead) → insert (insert m k a) k b
 put_twice m k a b = same_map nat_cmp_total nat_cmp-IsAntisymmetric (insert (insert m k a) k b) (insert m k b) (λ q.
     get-insert nat_cmp_total (insert m k a) k b q ∙ ap (λ (o : Option OpenRead). cond (eq_by_cmp nat_cmp q k) (Some b) o) (get-insert nat_cmp_total m k a q)
     ∙ cond_twice (eq_by_cmp nat_cmp q k) (Some b) (Some a) (get m q) ∙ sym (get-insert nat_cmp_total m k b q))
-
-gone_put : (m : Reads) (k : ℕ) (a : OpenRead) → remove (insert m k a) k ≡ remove m k
-gone_put m k a = same_map nat_cmp_total nat_cmp-IsAntisymmetric (remove (insert m k a) k) (remove m k) (λ q.
-    get-remove nat_cmp_total (insert m k a) k q ∙ ap (λ (o : Option OpenRead). cond (eq_by_cmp nat_cmp q k) None o) (get-insert nat_cmp_total m k a q)
-    ∙ cond_twice (eq_by_cmp nat_cmp q k) None (Some a) (get m q) ∙ sym (get-remove nat_cmp_total m k q))
-
-put_same : (m : Reads) (k : ℕ) (v : OpenRead) → get m k ≡ Some v → insert m k v ≡ m
-put_same m k v e = same_map nat_cmp_total nat_cmp-IsAntisymmetric (insert m k v) m (λ q. get-insert nat_cmp_total m k v q ∙ of q (eq_by_cmp nat_cmp q k) refl)
-  where
-    of : (q : ℕ) (b : Bool) → eq_by_cmp nat_cmp q k ≡ b → cond b (Some v) (get m q) ≡ get m q
-    of q true t = sym (ap (get m) (tied_is q k t) ∙ e)
-    of q false t = refl
 
 gone_same : (m : Reads) (k : ℕ) → get m k ≡ None → remove m k ≡ m
 gone_same m k e = same_map nat_cmp_total nat_cmp-IsAntisymmetric (remove m k) m (λ q. get-remove nat_cmp_total m k q ∙ of q (eq_by_cmp nat_cmp q k) refl)
@@ -89,71 +78,58 @@ failed_so P R None f g h = g h
 
 -- ---- the end of a fetch
 
-pub accepted_fewer : (old new : Reading) (n : ℕ) (content_type body : List ℕ) → Accepts old n content_type body (Ok tt) new → count_left new.links + 1 ≡ count_left old.links
-accepted_fewer old new n content_type body a =
-    ap (λ (r : Reading). count_left r.links + 1) a.1.1 ∙ count_given old.links old.links n content_type body a.0 refl a.1.0
+-- the read that is there
+pub held_is : (reads : Reads) (read : ℕ) (held r : OpenRead) → Some held ≡ get reads read → get reads read ≡ Some r → r ≡ held
+held_is reads read held r is e = let both : some_read held ≡ some_read r = is ∙ e in cc
 
-module _ (old : Reads) (read link : ℕ) (body : Body) (held other : OpenRead) (opened : Reads) (held_is : Some held ≡ get old read) (opened_is : opened ≡ insert old read other) where
-  pub more_takes : (after : Reading) (left wire : ℕ) (note : CacheNote) (closed : Reads) → Takes held.reader link (type_text body.content_type) body.bytes (Ok None) after
-      → left ≡ count_left held.reader.links - 1 → wire ≡ length body.bytes → note ≡ no_note → closed ≡ insert opened read (with_reader held after) → TakesAt old read link body (Ok (Fetched read link left wire note)) closed
-  more_takes after left wire note closed takes left_is wire_is note_is closed_is =
-      (held, (sym held_is, record { answer = Ok tt; after = after; accepts = takes.0; step = of (count_left after.links) takes.1 (omega (arith, fewer, left_is)) }))
-    where
-      fewer : count_left after.links + 1 ≡ count_left held.reader.links
-      fewer = accepted_fewer held.reader after link (type_text body.content_type) body.bytes takes.0
+-- the link of the read that is there is left
+pub link_left : (reads : Reads) (read link : ℕ) (held : OpenRead) → Some held ≡ get reads read → IsLinkLeftAt reads read link → is_link_left held.reader.links link ≡ true
+link_left reads read link held is w = ap (λ (r : OpenRead). is_link_left r.reader.links link) (sym (held_is reads read held w.0 is w.1.0)) ∙ w.1.1
 
-      put_it : closed ≡ insert old read (with_reader held after)
-      put_it = closed_is ∙ ap (λ (m : Reads). insert m read (with_reader held after)) opened_is ∙ put_twice old read other (with_reader held after)
+-- a read is put at its place again
+pub puts_at : (old opened new : Reads) (read link : ℕ) (held other : OpenRead) (got : List Chunks) (reader : Reading) → Some held ≡ get old read → opened ≡ insert old read other → reader ≡ take_link held.reader link got → new ≡ insert opened read (with_reader held reader)
+    → PutsAt old read link got new
+puts_at old opened new read link held other got reader is opened_is reader_is new_is = λ r e.
+    new_is
+    ∙ ap (λ (m : Reads). insert m read (with_reader held reader)) opened_is
+    ∙ put_twice old read other (with_reader held reader)
+    ∙ ap (λ (k : Reading). insert old read (with_reader held k)) reader_is
+    ∙ ap (λ (k : OpenRead). insert old read (with_reader k (take_link k.reader link got))) (sym (held_is old read held r is e))
 
-      of : (k : ℕ) → None ≡ bytes_if after k → left ≡ k → fetch_done old read link (length body.bytes) (with_reader held after) k ≡ (Ok (Fetched read link left wire note), closed)
-      of zero t e = absurd cc
-      of (suc k) t e = rw (e, wire_is, note_is, put_it) refl
+module _ (old : Reads) (read link : ℕ) (body : Body) (held : OpenRead) (there : Some held ≡ get old read) where
+  -- a refused body changes nothing
+  pub none_takes : (error : ClientError) → Answered {T = List Chunks} (Err error) (λ r. Gives held.reader.links link (type_text body.content_type) body.bytes r) ⊤ → Answered {T = Reply} (Err error) (λ r. TakesAt old read link body r old) (old ≡ old)
+  none_takes error h =
+      failed_so (λ (r : Result (List Chunks) Refusal). Gives held.reader.links link (type_text body.content_type) body.bytes r) (λ r. TakesAt old read link body r old) (refusal_of error)
+      (λ why g. (held, (sym there, record { answer = Err why; after = held.reader; accepts = (g, refl); step = refl })))
+      (λ u. refl) h
 
-  pub last_takes : (after : Reading) (bytes : List ℕ) (wire : ℕ) (note : CacheNote) (closed : Reads) → Takes held.reader link (type_text body.content_type) body.bytes (Ok (Some bytes)) after
-      → wire ≡ length body.bytes → note ≡ no_note → closed ≡ remove opened read → TakesAt old read link body (Ok (Finished read bytes wire note)) closed
-  last_takes after bytes wire note closed takes wire_is note_is closed_is =
-      (held, (sym held_is, record { answer = Ok tt; after = after; accepts = takes.0; step = of (count_left after.links) takes.1 }))
-    where
-      gone_it : closed ≡ remove old read
-      gone_it = closed_is ∙ ap (λ (m : Reads). remove m read) opened_is ∙ gone_put old read other
+  module _ (got : List Chunks) (gives : Gives held.reader.links link (type_text body.content_type) body.bytes (Ok got)) where
+    fewer : count_left (take_link held.reader link got).links + 1 ≡ count_left held.reader.links
+    fewer = count_given held.reader.links held.reader.links link (type_text body.content_type) body.bytes got refl gives
 
-      of : (k : ℕ) → Some bytes ≡ bytes_if after k → fetch_done old read link (length body.bytes) (with_reader held after) k ≡ (Ok (Finished read bytes wire note), closed)
-      of zero t = let b : bytes ≡ bytes_read after = cc in rw (b, wire_is, note_is, gone_it) refl
-      of (suc k) t = absurd cc
+    pub is_left_at : IsLinkLeftAt old read link
+    is_left_at = (held, (sym there, given_left (left_link held.reader.links link) (type_text body.content_type) body.bytes got gives))
 
-  pub same_again : (after : Reading) (closed : Reads) → after ≡ held.reader → closed ≡ insert opened read (with_reader held after) → closed ≡ old
-  same_again after closed same closed_is =
-      closed_is
-      ∙ ap (λ (m : Reads). insert m read (with_reader held after)) opened_is
-      ∙ put_twice old read other (with_reader held after)
-      ∙ ap (λ (r : Reading). insert old read (with_reader held r)) same
-      ∙ put_same old read held (sym held_is)
+    pub more_takes : (left wire : ℕ) (note : CacheNote) (closed : Reads) → left ≡ count_left held.reader.links - 1 → 0 < left → wire ≡ length body.bytes → note ≡ no_note → PutsAt old read link got closed → TakesAt old read link body (Ok (Fetched read link left wire note)) closed
+    more_takes left wire note closed left_is some wire_is note_is puts =
+        (held, (sym there, record { answer = Ok tt; after = take_link held.reader link got; accepts = (got, (gives, refl)); step = of (count_left (take_link held.reader link got).links) (omega (arith, fewer, left_is)) }))
+      where
+        put_it : closed ≡ insert old read (with_reader held (take_link held.reader link got))
+        put_it = puts held (sym there)
 
-  -- whatever the reader's refusal is, it is as it was
-  pub reader_same : (error : ClientError) (after : Reading) → Answered {T = Option (List ℕ)} (Err error) (λ r. Takes held.reader link (type_text body.content_type) body.bytes r after) (after ≡ held.reader) → after ≡ held.reader
-  reader_same error after h = of (refusal_of error) h
-    where
-      of : (o : Option Refusal) → AnsweredErr {T = Option (List ℕ)} o (λ r. Takes held.reader link (type_text body.content_type) body.bytes r after) (after ≡ held.reader) → after ≡ held.reader
-      of (Some why) g = g.1
-      of None g = g
+        of : (k : ℕ) → left ≡ k → fetch_done old read link (length body.bytes) (with_reader held (take_link held.reader link got)) k ≡ (Ok (Fetched read link left wire note), closed)
+        of zero e = absurd (omega (arith, some, e))
+        of (suc k) e = rw (e, wire_is, note_is, put_it) refl
 
-  pub none_takes : (error : ClientError) (after : Reading) (closed : Reads) → Answered {T = Option (List ℕ)} (Err error) (λ r. Takes held.reader link (type_text body.content_type) body.bytes r after) (after ≡ held.reader) → closed ≡ insert opened read (with_reader held after)
-      → Answered {T = Reply} (Err error) (λ r. TakesAt old read link body r closed) (closed ≡ old)
-  none_takes error after closed h closed_is =
-      failed_so (λ r. Takes held.reader link (type_text body.content_type) body.bytes r after) (λ r. TakesAt old read link body r closed) (refusal_of error)
-      (λ why g. (
-        held,
-        (
-          sym held_is,
-          record {
-            answer = Err why;
-            after = after;
-            accepts = g;
-            step = ap (λ (m : Reads). (Err why, m)) (sym (same_again after closed g.1 closed_is));
-          },
-        ),
-      ))
-      (λ same. same_again after closed same closed_is) h
+    pub last_takes : (left : ℕ) (bytes : List ℕ) (wire : ℕ) (note : CacheNote) (closed : Reads) → left ≡ count_left held.reader.links - 1 → left ≤ 0 → bytes ≡ bytes_read (take_link held.reader link got) → wire ≡ length body.bytes → note ≡ no_note → closed ≡ remove old read
+        → TakesAt old read link body (Ok (Finished read bytes wire note)) closed
+    last_takes left bytes wire note closed left_is none bytes_is wire_is note_is gone =
+        (held, (sym there, record { answer = Ok tt; after = take_link held.reader link got; accepts = (got, (gives, refl)); step = of (count_left (take_link held.reader link got).links) (omega (arith, fewer, left_is, none)) }))
+      where
+        of : (k : ℕ) → k ≡ 0 → fetch_done old read link (length body.bytes) (with_reader held (take_link held.reader link got)) k ≡ (Ok (Finished read bytes wire note), closed)
+        of zero e = rw (bytes_is, wire_is, note_is, gone) refl
+        of (suc k) e = absurd (omega (arith, e))
 
 pub left_is : (reads : Reads) (read left : ℕ) (held : OpenRead) → Some held ≡ get reads read → IsWantedAt reads read left → left ≡ count_left held.reader.links - 1
 left_is reads read left held is w =

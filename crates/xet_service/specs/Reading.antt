@@ -56,17 +56,9 @@ abbrev pub with_got : List ReadLink → ℕ → Option ReadLink → List Chunks 
 with_got links n None got = links
 with_got links n (Some link) got = slice_set links n (record link { got = Some got })
 
-abbrev pub without_got : List ReadLink → ℕ → Option ReadLink → List ReadLink
-without_got links n None = links
-without_got links n (Some link) = slice_set links n (record link { got = None })
-
 -- with the chunks of the link of this number
 abbrev pub take_link : Reading → ℕ → List Chunks → Reading
 take_link r n got = record r { links = with_got r.links n (slice_get r.links n) got }
-
--- with the link of this number left again
-abbrev pub give_back : Reading → ℕ → Reading
-give_back r n = record r { links = without_got r.links n (slice_get r.links n) }
 
 -- ---- what a body brings
 
@@ -210,13 +202,3 @@ held_text links h = concat (cut_of_range h (got_for links h))
 -- the terms' chunks joined, less the offset, cut to the range
 abbrev pub bytes_read : Reading → List ℕ
 bytes_read r = cut_to r.length (drop r.offset (flat_map (held_text r.links) r.terms))
-
--- the asked bytes, where no link is left
-abbrev pub bytes_if : Reading → ℕ → Option (List ℕ)
-bytes_if r zero = Some (bytes_read r)
-bytes_if r (suc left) = None
-
--- A link takes a body, and the asked bytes are the answer where no link is left then.
-abbrev pub Takes : Reading → ℕ → List ℕ → List ℕ → Result (Option (List ℕ)) Refusal → Reading → Type 0
-Takes old n content_type body (Ok answer) new = Accepts old n content_type body (Ok tt) new × (answer ≡ bytes_if new (count_left new.links))
-Takes old n content_type body (Err why) new = Accepts old n content_type body (Err why) new

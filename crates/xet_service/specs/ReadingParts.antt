@@ -1,12 +1,15 @@
 -- What the code that cuts a body into parts owes.
-use Rattle.std.specs.Prelude.{ℕ, Bool, true, false, ◌&&◌, ◌==◌, List, [], ◌∷◌, length, Result, Ok, Err}
+use Rattle.std.specs.Prelude.{◌≡◌, ◌≤◌, ◌-◌, ℕ, Bool, true, false, ◌&&◌, ◌==◌, List, [], ◌∷◌, length, Result, Ok, Err}
+use Rattle.std.specs.List.{concat}
 use Rattle.xet_types.specs.declared.record.XorbRangeDescriptor.{XorbRangeDescriptor}
 use Rattle.xet_types.specs.declared.error.Refusal.{Refusal}
 use Rattle.xet_types.specs.declared.error.Refusal.TheVariants.{FormatError, Other}
 use Rattle.xet_types.specs.declared.error.FormatFault.TheVariants as faults
 use Rattle.xet_store.specs.StoreModel.{Chunks}
 use Rattle.xet_wire.specs.Multipart.{Part}
-use Rattle.xet_service.specs.Reading.{bytes_in, IsReadInParts, IsCutInto, HasParts, AreAllWhole}
+use Rattle.xet_service.specs.declared.reader.held.HeldTerm.{HeldTerm}
+use Rattle.xet_service.specs.declared.reader.link.ReadLink.{ReadLink}
+use Rattle.xet_service.specs.Reading.{Reading, bytes_in, fits, nth_chunks, bytes_read, IsReadInParts, AreSized, AreAllWhole}
 
 -- the part is of the range's bytes
 abbrev pub is_of : XorbRangeDescriptor → Part → Bool
@@ -32,20 +35,24 @@ CutsApart ranges content_type body (Ok parts) = IsReadInParts ranges content_typ
 CutsApart ranges content_type body (Err Other) = (parts : List (List ℕ)) → IsReadInParts ranges content_type body parts → ⊥
 CutsApart ranges content_type body (Err why) = ⊥
 
--- a body as its content type says
-abbrev pub CutsInto : List XorbRangeDescriptor → List ℕ → List ℕ → Result (List (List ℕ)) Refusal → Type 0
-CutsInto ranges content_type body (Ok parts) = IsCutInto ranges content_type body parts
-CutsInto ranges content_type body (Err Other) = (parts : List (List ℕ)) → IsCutInto ranges content_type body parts → ⊥
-CutsInto ranges content_type body (Err why) = ⊥
-
--- parts that are as long as their ranges
-abbrev pub CutsParts : List XorbRangeDescriptor → List ℕ → List ℕ → Result (List (List ℕ)) Refusal → Type 0
-CutsParts ranges content_type body (Ok parts) = HasParts ranges content_type body parts
-CutsParts ranges content_type body (Err Other) = (parts : List (List ℕ)) → HasParts ranges content_type body parts → ⊥
-CutsParts ranges content_type body (Err why) = ⊥
-
 -- the chunks of each part
 abbrev pub ReadsParts : List (List ℕ) → Result (List Chunks) Refusal → Type 0
 ReadsParts parts (Ok got) = AreAllWhole parts got
 ReadsParts parts (Err (FormatError faults.Xorb)) = (got : List Chunks) → AreAllWhole parts got → ⊥
 ReadsParts parts (Err why) = ⊥
+
+-- what parts bring of a link, however they were cut of a body
+abbrev pub BringsCut : ReadLink → List (List ℕ) → Result (List Chunks) Refusal → Type 0
+BringsCut link parts (Ok got) = AreSized link.ranges parts × (AreAllWhole parts got × (fits link.ranges link.held got ≡ true))
+BringsCut link parts (Err Other) = AreSized link.ranges parts → ⊥
+BringsCut link parts (Err (FormatError faults.Xorb)) = AreSized link.ranges parts × ((got : List Chunks) → AreAllWhole parts got → ⊥)
+BringsCut link parts (Err (FormatError faults.Body)) = AreSized link.ranges parts × ((got : List Chunks) × (AreAllWhole parts got × (fits link.ranges link.held got ≡ false)))
+BringsCut link parts (Err why) = ⊥
+
+-- the first range of the link holds the term, which has all of so many chunks of it
+abbrev pub TakesAll : HeldTerm → ℕ → ℕ → Type 0
+TakesAll h link count = (h.range.link ≡ link) × ((h.range.number ≡ 0) × ((h.term.range.start ≤ h.range.chunks.start) × (count ≤ h.term.range.end - h.range.chunks.start)))
+
+-- what is read are the chunks that one range brought
+abbrev pub IsWhole : Reading → List Chunks → Type 0
+IsWhole r got = bytes_read r ≡ concat (nth_chunks got 0)

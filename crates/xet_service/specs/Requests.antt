@@ -1,19 +1,20 @@
 -- What the parts of a service's requests ask and leave.
-use Rattle.std.specs.Prelude.{◌≡◌, ℕ, ◌-◌, List, Some, Result, OnErr}
-use Rattle.std.specs.FinMap.{get}
+use Rattle.std.specs.Prelude.{◌≡◌, ℕ, ◌-◌, true, List, Some, Result, OnErr}
+use Rattle.std.specs.FinMap.{get, insert}
 use Rattle.xet_types.specs.declared.error.Refusal.{Refusal}
 use Rattle.xet_types.specs.declared.error.Refusal.TheVariants.{FormatError, InvalidRange, InvalidArguments, XORBNotFound, PresignedUrlExpirationError, Other}
 use Rattle.xet_types.specs.declared.error.FormatFault.TheVariants as faults
 use Rattle.xet_store.specs.Refusals.{OfOutside, OfSetting, OfXorbUpload, OfShardUpload, OfShardDeletion, OfFileSize, OfPlan, OfFileData, OfListing, OfCheck, OfGenerated}
+use Rattle.xet_store.specs.StoreModel.{Chunks}
 use Rattle.xet_service.specs.declared.step.Act.{Act}
 use Rattle.xet_service.specs.declared.step.Act.TheVariants.{UploadXorb, UploadShard, Plan, Fetch, Abandon, HideFile, DeleteShard, DeleteXorb, SetExpiration, SetMaxRanges, FileSize, FileData, SetDedupExpiration, DedupQuery, RemoveDedup, ListXorbs, ListShards, ListFiles, CheckIntegrity, CheckReachable, CheckReadable, InsertRandomXorb, Batch, InsertLazyFile}
 use Rattle.xet_service.specs.declared.reply.Reply.{Reply}
 use Rattle.xet_service.specs.declared.reply.Reply.TheVariants.{Refused}
 use Rattle.xet_service.specs.declared.read.OpenRead.{OpenRead}
 use Rattle.xet_service.specs.Bodies.{Body}
-use Rattle.xet_service.specs.Reading.{count_left}
+use Rattle.xet_service.specs.Reading.{count_left, is_link_left, take_link}
 use Rattle.xet_service.specs.World.{Reads}
-use Rattle.xet_service.specs.Steps.{TakesBody}
+use Rattle.xet_service.specs.Steps.{TakesBody, with_reader}
 
 -- ---- refusals, whatever the store tells
 
@@ -83,6 +84,14 @@ IsOpenAt reads n = (r : OpenRead) × (get reads n ≡ Some r)
 -- a read is open at the number, and so many links are left but one
 abbrev pub IsWantedAt : Reads → ℕ → ℕ → Type 0
 IsWantedAt reads n left = (r : OpenRead) × ((get reads n ≡ Some r) × (left ≡ count_left r.reader.links - 1))
+
+-- a read is open at the number, and the link is left
+abbrev pub IsLinkLeftAt : Reads → ℕ → ℕ → Type 0
+IsLinkLeftAt reads n link = (r : OpenRead) × ((get reads n ≡ Some r) × (is_link_left r.reader.links link ≡ true))
+
+-- the link of the read of the number has these chunks
+abbrev pub PutsAt : Reads → ℕ → ℕ → List Chunks → Reads → Type 0
+PutsAt old n link got new = (r : OpenRead) → get old n ≡ Some r → new ≡ insert old n (with_reader r (take_link r.reader link got))
 
 -- the read of the number takes the body
 abbrev pub TakesAt : Reads → ℕ → ℕ → Body → Result Reply Refusal → Reads → Type 0

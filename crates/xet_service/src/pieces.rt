@@ -7,6 +7,9 @@ use std::alloc::Global;
 use std::marker::Model;
 use xet_types::OutOfMemory;
 
+/// For how many further pieces room is kept.
+const SPARE: usize = 4;
+
 /// Bytes in pieces, one behind the other, which are shared by all that hold them. Contracts see them joined.
 #[derive(Debug, Drop)]
 pub struct Pieces {
@@ -51,6 +54,15 @@ impl Pieces {
         Ok(Pieces {
             pieces: Vec::with_capacity(alloc, room)?,
         })
+    }
+
+    /// These pieces, which aren't copied. Takes no memory, and gives back room for more than a few further ones.
+    pub fn from_vec(pieces: Vec<Bytes>) -> Pieces
+        ensures { result ≡ concat pieces.items }
+    {
+        let mut pieces = pieces;
+        pieces.shrink_to(pieces.len() + SPARE);
+        Pieces { pieces }
     }
 
     /// Adds a piece, which isn't copied; one without bytes takes no place. Where there is no memory, the bytes stay as they were.

@@ -1,12 +1,14 @@
 //! Open reads as clients have them.
-ghost use Rattle.std.specs.Prelude.{◌≡◌, ◌++◌, nat_le, length, IfOk, OnOk, ⊤};
+ghost use Rattle.std.specs.Prelude.{◌≡◌, ◌++◌, true, nat_le, length, IfOk, OnOk, IsTrue, ⊤};
 ghost use Rattle.std.specs.List.{flat_map};
 ghost use Rattle.xet_store.specs.Answered.{Answered};
 ghost use Rattle.std.specs.Option.{option_copied};
-ghost use Rattle.xet_service.specs.Reading.{Reading, left_link, is_link_left, count_left, give_back, Gives, Accepts, Takes, got_for, cut_of_range, held_text, bytes_read};
+ghost use Rattle.xet_service.specs.Reading.{Reading, left_link, is_link_left, count_left, take_link, Gives, Accepts, held_text, bytes_read};
+ghost use Rattle.xet_service.specs.ReadingParts.{IsWhole};
 ghost use Rattle.xet_service.specs.ReadingPlans.{total_of, Opens};
 ghost use Rattle.xet_service.specs.Gathering.{after_text};
 
+mod filled;
 mod gather;
 mod held;
 mod join;
@@ -16,10 +18,11 @@ mod parts;
 
 use crate::pieces::Pieces;
 use bytes::Bytes;
+use filled::{Filled, first_chunks, takes_all};
 use gather::Gathering;
 use held::{HeldTerm, all_ranges, held_terms};
-use join::{asked_length, cut, part, push_chunks};
-use link::{ReadLink, all_apart, count_left, drop_got, fresh_links, give_terms, put_got};
+use join::{asked_length, cut, push_chunks};
+use link::{ReadLink, all_apart, count_left, fresh_links, give_terms, nth_chunks, put_got};
 use std::alloc::Global;
 use std::marker::Model;
 use xet_types::{
@@ -149,13 +152,12 @@ impl Reader {
         ensures { Answered result (λ r. Accepts self.old link content_type.now body r self.new) (self.new ≡ self.old) }
     {
         let got = self.read(alloc, link, content_type, &body)?;
-        put_got(&mut self.links, link, got);
-        self.left -= 1;
+        self.put(link, got);
         Ok(())
     }
 
-    /// The chunks of each range of a link that is left.
-    fn read(
+    /// The chunks that a body brings of each range of a link. Refused as [`Reader::accept`] refuses it.
+    pub(crate) fn read(
         &self,
         alloc: Global,
         link: usize,
@@ -170,12 +172,13 @@ impl Reader {
         self.links[link].read(alloc, content_type, body)
     }
 
-    /// Makes a link left again.
-    fn give_back(&mut self, link: usize)
-        ensures { self.new ≡ give_back self.old link }
+    /// Puts the chunks that a body brought into a link that is left. Takes no memory.
+    pub(crate) fn put(&mut self, link: usize, got: Items<Items<Bytes>>)
+        requires { is_link_left self.old.links link ≡ true }
+        ensures { self.new ≡ take_link self.old link got }
     {
-        drop_got(&mut self.links, link);
-        self.left = count_left(&self.links);
+        put_got(&mut self.links, link, got);
+        self.left -= 1;
     }
 
     /// The asked bytes: the terms' chunks joined, less the offset, cut to the range's length where a range was given.
@@ -183,57 +186,80 @@ impl Reader {
         requires { count_left self.now.links ≡ 0 }
         ensures { IfOk result (λ bytes. bytes ≡ bytes_read self.now) }
     {
-        let joined = joined(alloc, &self.links, &self.terms)?;
+        self.copied(alloc, &Filled::new(&self.links))
+    }
+
+    /// The terms' chunks where the links have these, less the offset, cut to the range's length; they are copied.
+    fn copied(&self, alloc: Global, filled: &Filled<'_>) -> Result<Bytes, OutOfMemory>
+        ensures { IfOk result (λ bytes. bytes ≡ bytes_read (record self.now { links = filled.now })) }
+    {
+        let joined = joined(alloc, filled, &self.terms)?;
         cut(&Bytes::from_vec(joined)?, self.offset, self.length)
     }
 
-    /// What [`Reader::finish`] answers, as further holders of the chunks.
-    fn gathered(&self, alloc: Global, count: usize) -> Result<Pieces, OutOfMemory>
-        ensures { IfOk result (λ pieces. pieces ≡ bytes_read self.now) }
+    /// The same, as further holders of the chunks.
+    fn gathered(
+        &self,
+        alloc: Global,
+        filled: &Filled<'_>,
+        count: usize,
+    ) -> Result<Pieces, OutOfMemory>
+        ensures { IfOk result (λ pieces. pieces ≡ bytes_read (record self.now { links = filled.now })) }
     {
         let mut gathering = Gathering::new(alloc, count, self.offset, self.length)?;
-        push_terms(&mut gathering, &self.links, &self.terms)?;
+        push_terms(&mut gathering, filled, &self.terms)?;
         Ok(gathering.into_pieces())
     }
 
-    /// What [`Reader::finish`] answers. The chunks aren't copied, unless they are so small that their holders would take more
-    /// memory.
-    fn pieces(&self, alloc: Global) -> Result<Pieces, OutOfMemory>
-        requires { count_left self.now.links ≡ 0 }
-        ensures { IfOk result (λ pieces. pieces ≡ bytes_read self.now) }
+    /// Whether the read is of all chunks of the only range of a link, which are no smaller than their holders.
+    fn is_whole(&self, link: usize, got: &[Items<Bytes>]) -> bool
+        requires { is_link_left self.now.links link ≡ true }
+        ensures { IsTrue result → IsWhole (take_link self.now link got.now) got.now }
     {
-        let count = count_chunks(&self.links, &self.terms);
-        if room_of(&self.terms) / HOLDER >= count {
-            return self.gathered(alloc, count);
+        let [held] = self.terms.as_slice() else {
+            return false;
+        };
+        let chunks = nth_chunks(got, 0);
+        if self.offset > 0 {
+            return false;
+        }
+        if self.length.is_some() {
+            return false;
+        }
+        if !takes_all(held, link, chunks.len()) {
+            return false;
+        }
+        are_large(held.term.unpacked_length as usize, chunks.len())
+    }
+
+    /// What [`Reader::finish`] answers once the last link that is left has brought these chunks. They aren't copied, unless they are so
+    /// small that their holders would take more memory.
+    pub(crate) fn pieces(
+        &self,
+        alloc: Global,
+        link: usize,
+        got: Items<Items<Bytes>>,
+    ) -> Result<Pieces, OutOfMemory>
+        requires { is_link_left self.now.links link ≡ true }
+        ensures { IfOk result (λ pieces. pieces ≡ bytes_read (take_link self.now link got)) }
+    {
+        if self.is_whole(link, got.as_slice()) {
+            return Ok(Pieces::from_vec(first_chunks(alloc, got)));
+        }
+        let filled = Filled::with(&self.links, link, got.as_slice());
+        let count = filled.count_chunks(&self.terms);
+        if are_large(room_of(&self.terms), count) {
+            return self.gathered(alloc, &filled, count);
         }
         let mut pieces = Pieces::with_capacity(alloc, 1)?;
-        pieces.push(self.finish(alloc)?)?;
+        pieces.push(self.copied(alloc, &filled)?)?;
         Ok(pieces)
     }
 }
 
-/// Takes the body of a link as [`Reader::accept`] does; where no link is left then, the asked bytes are the answer. A refusal
-/// leaves the reader as it was, also where there is no memory for the bytes.
-pub(crate) fn take_body(
-    alloc: Global,
-    reader: &mut Reader,
-    link: usize,
-    content_type: &str,
-    body: Bytes,
-) -> Result<Option<Pieces>, ClientError>
-    ensures { Answered result (λ r. Takes reader.old link content_type.now body r reader.new) (reader.new ≡ reader.old) }
-{
-    reader.accept(alloc, link, content_type, body)?;
-    if reader.left() > 0 {
-        return Ok(None);
-    }
-    match reader.pieces(alloc) {
-        Ok(pieces) => Ok(Some(pieces)),
-        Err(OutOfMemory) => {
-            reader.give_back(link);
-            Err(ClientError::OutOfMemory)
-        }
-    }
+/// Whether chunks of so many bytes together are no smaller than their holders.
+fn are_large(bytes: usize, chunks: usize) -> bool {
+    bytes / HOLDER >= chunks
 }
 
 /// Whether the terms together have at least so many bytes.
@@ -247,43 +273,6 @@ fn reaches(terms: &[XorbReconstructionTerm], offset: u64) -> bool
     left == 0
 }
 
-/// The chunks of the range that holds a term, none where they weren't brought.
-fn got_for<'a>(links: &'a [ReadLink], held: &HeldTerm) -> &'a [Bytes]
-    ensures { result.now ≡ got_for links.now held.now }
-{
-    let Some(link) = links.get(held.range.link) else {
-        return &[];
-    };
-    let Some(got) = &link.got else {
-        return &[];
-    };
-    match got.as_slice().get(held.range.number) {
-        Some(chunks) => chunks.as_slice(),
-        None => &[],
-    }
-}
-
-/// A term's chunks, none where they weren't brought.
-fn chunks_of<'a>(links: &'a [ReadLink], held: &HeldTerm) -> &'a [Bytes]
-    ensures { result.now ≡ cut_of_range held.now (got_for links.now held.now) }
-{
-    let first = held.range.chunks.start;
-    part(
-        got_for(links, held),
-        held.term.range.start.saturating_sub(first),
-        held.term.range.end.saturating_sub(first),
-    )
-}
-
-/// How many chunks the terms have together, up to the type's end.
-fn count_chunks(links: &[ReadLink], terms: &[HeldTerm]) -> usize {
-    let mut count = 0usize;
-    for term in terms {
-        count = count.saturating_add(chunks_of(links, term).len());
-    }
-    count
-}
-
 /// How many bytes the terms have together, up to the type's end.
 fn room_of(terms: &[HeldTerm]) -> usize {
     let mut room = 0usize;
@@ -294,19 +283,19 @@ fn room_of(terms: &[HeldTerm]) -> usize {
 }
 
 /// Adds a term's chunks.
-fn push_held(out: &mut Vec<u8>, links: &[ReadLink], held: &HeldTerm) -> Result<(), OutOfMemory>
-    ensures { OnOk result (out.new.items ≡ out.old.items ++ held_text links.now held.now) }
+fn push_held(out: &mut Vec<u8>, filled: &Filled<'_>, held: &HeldTerm) -> Result<(), OutOfMemory>
+    ensures { OnOk result (out.new.items ≡ out.old.items ++ held_text filled.now held.now) }
 {
-    push_chunks(out, chunks_of(links, held))
+    push_chunks(out, filled.chunks_of(held))
 }
 
 /// The terms' chunks joined.
-fn joined(alloc: Global, links: &[ReadLink], terms: &[HeldTerm]) -> Result<Vec<u8>, OutOfMemory>
-    ensures { IfOk result (λ bytes. bytes.items ≡ flat_map (held_text links.now) terms.now) }
+fn joined(alloc: Global, filled: &Filled<'_>, terms: &[HeldTerm]) -> Result<Vec<u8>, OutOfMemory>
+    ensures { IfOk result (λ bytes. bytes.items ≡ flat_map (held_text filled.now) terms.now) }
 {
     let mut joined = Vec::with_capacity(alloc, room_of(terms))?;
     for held in terms {
-        push_held(&mut joined, links, held)?;
+        push_held(&mut joined, filled, held)?;
     }
     Ok(joined)
 }
@@ -314,13 +303,13 @@ fn joined(alloc: Global, links: &[ReadLink], terms: &[HeldTerm]) -> Result<Vec<u
 /// Takes what is asked of the terms' chunks, in order.
 fn push_terms(
     gathering: &mut Gathering,
-    links: &[ReadLink],
+    filled: &Filled<'_>,
     terms: &[HeldTerm],
 ) -> Result<(), OutOfMemory>
-    ensures { OnOk result (gathering.new ≡ after_text gathering.old (flat_map (held_text links.now) terms.now)) }
+    ensures { OnOk result (gathering.new ≡ after_text gathering.old (flat_map (held_text filled.now) terms.now)) }
 {
     for held in terms {
-        gathering.push_all(chunks_of(links, held))?;
+        gathering.push_all(filled.chunks_of(held))?;
     }
     Ok(())
 }

@@ -9,20 +9,21 @@ ghost use Rattle.xet_store.specs.Told.{Asks, Follows, Leaves};
 ghost use Rattle.xet_store.specs.TermData.{is_expired};
 ghost use Rattle.xet_store.specs.Responses.{RespondsBy};
 ghost use Rattle.xet_store.specs.Answered.{Answered};
-ghost use Rattle.xet_store.specs.Refusals.{RefusedBy, OfPlan, OfXorbUpload, OfShardUpload, OfGenerated};
+ghost use Rattle.xet_store.specs.Refusals.{RefusedBy, OfPlan, OfXorbBytes, OfXorbUpload, OfShardUpload, OfGenerated};
 ghost use Rattle.xet_service.specs.declared.reply.Reply.TheVariants.{Uploaded, ShardTaken, Size, Data, Random};
 ghost use Rattle.xet_service.specs.declared.step.Act.TheVariants.{Fetch};
+ghost use Rattle.xet_service.specs.Bodies.{SendsStored};
 ghost use Rattle.xet_service.specs.World.{state};
 ghost use Rattle.xet_service.specs.Causes.{IsAsked};
 ghost use Rattle.xet_service.specs.Steps.{Acts, Does, Fetches, PlansBy, map_ok, was_done, no_note, open_plan, abandon_step, asked_bytes, shard_reply, hashes_reply, files_reply, batch_reply, RepliesToAll, lazy_reply};
 ghost use Rattle.xet_service.specs.Links.{answer_of};
-ghost use Rattle.xet_service.specs.Requests.{OfAct, OfPlanAct, OfFetch, OfLink, IsAnswer, IsOpenAt, IsWantedAt, KeepsReads, TakesAt};
+ghost use Rattle.xet_service.specs.Requests.{OfAct, OfPlanAct, OfFetch, OfLink, IsAnswer, IsOpenAt, IsWantedAt, IsLinkLeftAt, PutsAt, KeepsReads, TakesAt};
 
 use crate::body::{TermBody, fetch_term_body};
 use crate::links::{links_of, links_of_entries, terms_of_files};
 use crate::pieces::Pieces;
 use crate::read::OpenRead;
-use crate::reader::{Reader, take_body};
+use crate::reader::Reader;
 use crate::reply::{CacheNote, Reply};
 use crate::step::{Act, PlanVersion};
 use bytes::Bytes;
@@ -293,6 +294,25 @@ fn asked_bytes(alloc: Global, ranges: &[XorbRangeDescriptor]) -> Result<Vec<File
     Ok(asked)
 }
 
+/// The body of ranges of a xorb, as [`fetch_term_body`] answers it.
+fn fetch_ranges<K: Store>(
+    alloc: Global,
+    store: &mut K,
+    hash: &MerkleHash,
+    ranges: &[XorbRangeDescriptor],
+) -> Result<TermBody, ClientError>
+    ensures told { (m : StoreModel) → K.Client.told store.old ≡ Some m → Asks (SendsStored m hash.now (asked_bytes ranges.now)) result }
+    ensures refusals { RefusedBy (OfXorbBytes hash.now) result }
+    ensures stays { K.Client.told store.new ≡ K.Client.told store.old }
+    ensures cause { FailsOnlyByFault (K.Client.faults store.old) (K.Client.faults store.new) result }
+{
+    if let [range] = ranges {
+        return fetch_term_body(alloc, store, hash, &[FileRange::from(range.bytes)]);
+    }
+    let asked = asked_bytes(alloc, ranges)?;
+    fetch_term_body(alloc, store, hash, &asked)
+}
+
 /// Stores a generated xorb. `InvalidArguments` where so many chunks of this length aren't those of a xorb.
 fn insert_random<K: Store>(
     alloc: Global,
@@ -378,6 +398,26 @@ impl<K> ChunkService<K> {
     }
 }
 
+/// Puts the chunks that a body brought into a link that is left of an open read. Takes no memory.
+fn put(
+    alloc: Global,
+    reads: &mut ByNumber<OpenRead>,
+    read: u64,
+    link: usize,
+    got: Items<Items<Bytes>>,
+)
+    requires { IsLinkLeftAt reads.old read link }
+    ensures { PutsAt reads.old read link got reads.new }
+{
+    let empty = OpenRead {
+        reader: Reader::empty(alloc),
+        stamp: 0,
+    };
+    let mut open = replace(reads, read, empty);
+    open.reader.put(link, got);
+    replace(reads, read, open);
+}
+
 /// Gives an open read the body of a link that is left, after which so many are left; the last one finishes it. A refused body
 /// changes nothing.
 fn take(
@@ -395,39 +435,30 @@ fn take(
     ensures kept { OnErr result (reads.new ≡ reads.old) }
     ensures outside { result ≡ Err ClientError.IOError → ⊥ }
 {
-    let wire = sent.body.len() as u64;
-    let body = sent.body.clone()?;
-    let empty = OpenRead {
-        reader: Reader::empty(alloc),
-        stamp: 0,
+    let Some(open) = reads.get(read) else {
+        unreachable!()
     };
-    let mut open = replace(reads, read, empty);
-    let content_type = sent.type_text();
-    match take_body(alloc, &mut open.reader, link as usize, content_type, body) {
-        Ok(None) => {
-            replace(reads, read, open);
-            Ok(Reply::Fetched {
-                read,
-                link,
-                left,
-                wire,
-                cache: no_note(),
-            })
-        }
-        Ok(Some(pieces)) => {
-            reads.remove(read);
-            Ok(Reply::Finished {
-                read,
-                bytes: pieces,
-                wire,
-                cache: no_note(),
-            })
-        }
-        Err(error) => {
-            replace(reads, read, open);
-            Err(error)
-        }
+    let reader = &open.reader;
+    let wire = sent.body.len() as u64;
+    let got = reader.read(alloc, link as usize, sent.type_text(), &sent.body)?;
+    if left > 0 {
+        put(alloc, reads, read, link as usize, got);
+        return Ok(Reply::Fetched {
+            read,
+            link,
+            left,
+            wire,
+            cache: no_note(),
+        });
     }
+    let bytes = reader.pieces(alloc, link as usize, got)?;
+    reads.remove(read);
+    Ok(Reply::Finished {
+        read,
+        bytes,
+        wire,
+        cache: no_note(),
+    })
 }
 
 impl<K: Store> ChunkService<K> {
@@ -479,8 +510,8 @@ impl<K: Store> ChunkService<K> {
         let Ok(left) = u32::try_from(open.reader.left().saturating_sub(1)) else {
             return Err(ClientError::OutOfMemory);
         };
-        let ranges = asked_bytes(alloc, wanted.ranges.as_slice())?;
-        let sent = fetch_term_body(alloc, &mut self.store, &wanted.hash, &ranges)?;
+        let ranges = wanted.ranges.as_slice();
+        let sent = fetch_ranges(alloc, &mut self.store, &wanted.hash, ranges)?;
         take(alloc, &mut self.reads, read, link, left, sent)
     }
 

@@ -2,17 +2,19 @@
 ghost use Rattle.std.specs.Prelude.{◌≡◌, ◌↔◌, ◌++◌, map, length, sum, IfOk, OnOk, IsTrue, slice_get, ⊤};
 ghost use Rattle.xet_types.specs.RecordMaps.{listed};
 ghost use Rattle.xet_store.specs.Answered.{Answered};
-ghost use Rattle.xet_service.specs.Reading.{count_left, with_got, without_got, cut_of_range, has_length, nth_chunks, have_lengths, have_counts, fits, Brings};
+ghost use Rattle.xet_service.specs.Reading.{count_left, with_got, cut_of_range, has_length, nth_chunks, have_lengths, have_counts, fits, Brings};
 ghost use Rattle.xet_service.specs.ReadingPlans.{fresh_link, xorb_links, fresh_links, are_apart, all_apart, with_terms};
+ghost use Rattle.xet_service.specs.ReadingParts.{BringsCut};
 ghost use Rattle.xet_service.specs.ReadingSteps.{give_term};
 
 use super::held::HeldTerm;
 use super::join::part;
-use super::parts::{parts_of, read_parts};
+use super::parts::{are_sized, is_multipart, read_parts, split, unlike};
 use crate::links::count_links;
 use bytes::Bytes;
 use std::alloc::Global;
 use std::collections::BTreeMap;
+use std::slice;
 use xet_types::{
     ClientError, FormatFault, HexMerkleHash, Items, MerkleHash, OutOfMemory, XorbMultiRangeFetch,
     XorbRangeDescriptor,
@@ -132,15 +134,6 @@ pub fn put_got(links: &mut Vec<ReadLink>, at: usize, got: Items<Items<Bytes>>)
     }
 }
 
-/// Takes the chunks that a link brought out of it.
-pub fn drop_got(links: &mut Vec<ReadLink>, at: usize)
-    ensures { links.new.items ≡ without_got links.old.items at (slice_get links.old.items at) }
-{
-    if at < links.len() {
-        links[at].got = None;
-    }
-}
-
 /// How many links are left.
 pub fn count_left(links: &[ReadLink]) -> usize
     ensures { result ≡ count_left links.now }
@@ -182,7 +175,7 @@ fn has_length(chunks: &[Bytes], held: &HeldTerm) -> bool
 }
 
 /// The chunks of the range of a number, none where there is no such range.
-fn nth_chunks<'a>(got: &'a [Items<Bytes>], number: usize) -> &'a [Bytes]
+pub fn nth_chunks<'a>(got: &'a [Items<Bytes>], number: usize) -> &'a [Bytes]
     ensures { result.now ≡ nth_chunks got.now number }
 {
     match got.get(number) {
@@ -229,6 +222,21 @@ fn fits(ranges: &[XorbRangeDescriptor], held: &[HeldTerm], got: &[Items<Bytes>])
 }
 
 impl ReadLink {
+    /// The chunks of each part that was cut of a body. `Other` where there isn't a part for each range, as long as the range.
+    fn read_cut(&self, alloc: Global, parts: &[Bytes]) -> Result<Items<Items<Bytes>>, ClientError>
+        ensures { Answered result (BringsCut self.now parts.now) ⊤ }
+    {
+        let ranges = self.ranges.as_slice();
+        if !are_sized(ranges, parts) {
+            return Err(unlike(alloc));
+        }
+        let got = read_parts(alloc, parts)?;
+        if !fits(ranges, self.held.as_slice(), got.as_slice()) {
+            return Err(ClientError::FormatError(FormatFault::Body));
+        }
+        Ok(got)
+    }
+
     /// The chunks of each range that a body spells. Refused as [`super::Reader::accept`] refuses it where the link is left.
     pub fn read(
         &self,
@@ -236,14 +244,12 @@ impl ReadLink {
         content_type: &str,
         body: &Bytes,
     ) -> Result<Items<Items<Bytes>>, ClientError>
-        ensures { Answered result (λ r. Brings self.now content_type.now body.now r) ⊤ }
+        ensures { Answered result (Brings self.now content_type.now body.now) ⊤ }
     {
-        let ranges = self.ranges.as_slice();
-        let parts = parts_of(alloc, ranges, content_type, body)?;
-        let got = read_parts(alloc, parts.as_slice())?;
-        if !fits(ranges, self.held.as_slice(), got.as_slice()) {
-            return Err(ClientError::FormatError(FormatFault::Body));
+        if is_multipart(content_type) {
+            let parts = split(alloc, self.ranges.as_slice(), content_type, body)?;
+            return self.read_cut(alloc, parts.as_slice());
         }
-        Ok(got)
+        self.read_cut(alloc, slice::from_ref(body))
     }
 }

@@ -1,11 +1,11 @@
 //! The parts of a body, and the chunks that they are.
-ghost use Rattle.std.specs.Prelude.{◌≡◌, ◌↔◌, ◌∷◌, [], map, IfOk, IfSome, IsTrue, ⊤};
+ghost use Rattle.std.specs.Prelude.{◌≡◌, ◌↔◌, map, IfOk, IfSome, IsTrue, ⊤};
 ghost use Rattle.xet_types.specs.Faults.{refusal_of};
 ghost use Rattle.xet_types.specs.declared.error.Refusal.TheVariants.{Other};
 ghost use Rattle.xet_wire.specs.Multipart.{content_of};
 ghost use Rattle.xet_store.specs.Answered.{Answered};
 ghost use Rattle.xet_service.specs.Reading.{IsMultipart};
-ghost use Rattle.xet_service.specs.ReadingParts.{is_of, are_of, are_sized, CutsApart, CutsInto, CutsParts, ReadsParts};
+ghost use Rattle.xet_service.specs.ReadingParts.{is_of, are_of, are_sized, CutsApart, ReadsParts};
 
 use bytes::Bytes;
 use memchr::memmem;
@@ -15,7 +15,7 @@ use xet_wire::{MultipartPart, parse_multipart_byteranges};
 use xet_xorb::read_chunks;
 
 /// Whether a body of this content type is in parts.
-fn is_multipart(content_type: &str) -> bool
+pub fn is_multipart(content_type: &str) -> bool
     ensures { IsTrue result ↔ IsMultipart content_type.now }
 {
     if content_type.is_empty() {
@@ -25,7 +25,7 @@ fn is_multipart(content_type: &str) -> bool
 }
 
 /// The refusal of a body that isn't the link's.
-fn unlike(alloc: Global) -> ClientError
+pub fn unlike(alloc: Global) -> ClientError
     ensures { IfSome (refusal_of result) (λ why. why ≡ Other) }
 {
     match String::from_str(alloc, "the body isn't the link's") {
@@ -70,7 +70,7 @@ fn contents(alloc: Global, read: Vec<MultipartPart>) -> Result<Items<Bytes>, Out
 }
 
 /// The parts of a body in parts, which in order of start must be those of these ranges.
-fn split(
+pub fn split(
     alloc: Global,
     ranges: &[XorbRangeDescriptor],
     content_type: &str,
@@ -85,33 +85,8 @@ fn split(
     Ok(contents(alloc, read)?)
 }
 
-/// A body as its one part.
-fn whole(alloc: Global, body: &Bytes) -> Result<Items<Bytes>, OutOfMemory>
-    ensures { IfOk result (λ parts. parts ≡ body.now ∷ []) }
-{
-    let mut parts = Vec::with_capacity(alloc, 1)?;
-    parts.push(body.clone()?)?;
-    Ok(Items::from_vec(parts))
-}
-
-/// The parts of a body, whatever their lengths.
-fn cut(
-    alloc: Global,
-    ranges: &[XorbRangeDescriptor],
-    content_type: &str,
-    body: &Bytes,
-) -> Result<Items<Bytes>, ClientError>
-    ensures { Answered result (CutsInto ranges.now content_type.now body.now) ⊤ }
-{
-    if is_multipart(content_type) {
-        split(alloc, ranges, content_type, body)
-    } else {
-        Ok(whole(alloc, body)?)
-    }
-}
-
 /// Whether there is a part for each range, as long as the range.
-fn are_sized(ranges: &[XorbRangeDescriptor], parts: &[Bytes]) -> bool
+pub fn are_sized(ranges: &[XorbRangeDescriptor], parts: &[Bytes]) -> bool
     ensures { result ≡ are_sized ranges.now parts.now }
 {
     let mut rest = parts;
@@ -125,22 +100,6 @@ fn are_sized(ranges: &[XorbRangeDescriptor], parts: &[Bytes]) -> bool
         rest = others;
     }
     rest.is_empty()
-}
-
-/// The parts of a body, one for each range and as long as it. `Other` where it has no such parts.
-pub fn parts_of(
-    alloc: Global,
-    ranges: &[XorbRangeDescriptor],
-    content_type: &str,
-    body: &Bytes,
-) -> Result<Items<Bytes>, ClientError>
-    ensures { Answered result (CutsParts ranges.now content_type.now body.now) ⊤ }
-{
-    let parts = cut(alloc, ranges, content_type, body)?;
-    if !are_sized(ranges, parts.as_slice()) {
-        return Err(unlike(alloc));
-    }
-    Ok(parts)
 }
 
 /// The chunks that each part is. `FormatError(Xorb)` where a part isn't whole chunks.

@@ -17,7 +17,7 @@ loop-held-preserved c =
     let i = c.loop-held.held-index in
     let terms = c.args.terms.now in
     let held = c.held-item.result in
-    let text = held_text c.args.links.now in
+    let text = held_text c.args.filled.now in
     let done = flat_map text (take i terms) in
     let more : flat_map text (take (i + 1) terms) ≡ done ++ text held = flat_more text terms i held c.loop-held-test.true ∙ ap (λ (h : HeldTerm). done ++ text h) (sym c.held-item.is) in
     c.in_ok-push_all.ensures ∙ ap (λ (b : Chunks). after_text c.loop-held.gathering (concat b)) c.chunks_of.ensures

@@ -5,4 +5,4 @@ use Rattle.xet_service.specs.Reading.{held_text}
 use Rattle.xet_service.proofs.reader.push_terms.Given as goal
 
 abbrev pub invariant-loop-held : goal.invariant-loop-held
-invariant-loop-held l = l.gathering ≡ after_text l.fn.gathering (flat_map (held_text l.fn.links) (take l.held-index l.terms))
+invariant-loop-held l = l.gathering ≡ after_text l.fn.gathering (flat_map (held_text l.fn.filled) (take l.held-index l.terms))
