@@ -4,7 +4,7 @@ use Rattle.std.specs.List.{range_with_len}
 use Rattle.std.proofs.Math.Seq.{take-add}
 use Rattle.std.proofs.lemmas.List.{get_or-map, length-map, ext_get_or, take-take, take_all, take-append-drop, take-append-le, length-take}
 use Rattle.std.proofs.lemmas.Nat.{and_le_r, and_mask}
-use Rattle.std.proofs.lemmas.Simd.{map-map, Each1-all, Each1-get_or, Each1-weaker, Each1-zip2, Each2-splat, below_from_Fits, zip2_splat, swz_l, SwzOk-from_below, length-swz_l, get_or-swz_l_below, pick_l_whole, take_more_put_chunk, length-put_chunk, length-chunk}
+use Rattle.std.proofs.lemmas.Simd.{map-map, Each1-all, Each1-get_or, Each1-weaker, Each1-zip2, Each2-splat, below_from_Fits, zip2_splat, swz_l, length-swz_l, get_or-swz_l_below, pick_l_whole, take_more_put_chunk, length-put_chunk}
 use lib.Lanes.{Each1, zip2, chunk, put_chunk, pick_l}
 use Rattle.hex.specs.Hex.{encode_with}
 use Rattle.hex.proofs.HexLemmas.{length-encode_with}

@@ -1,7 +1,9 @@
 //! The words of a line, and what they mean.
-ghost use Rattle.std.specs.Prelude.{◌≡◌, ◌∷◌, IfOk, Option};
+ghost use Rattle.std.specs.Prelude.{◌≡◌, ◌<◌, ◌∷◌, if◌then◌else◌, length, IfOk, Option, Some, None};
+ghost use Rattle.std.specs.Char.{is_ascii_digit};
+ghost use Rattle.std.specs.List.{list_all};
 ghost use Rattle.std.specs.Option.{option_copied};
-ghost use Rattle.xet_demo.specs.Words.{parts_of, parts_after, number_of, small_number_of, octets_of, range_of, between};
+ghost use Rattle.xet_demo.specs.Words.{parts_of, parts_after, number_of, small_number_of, octets_of, range_of, between, value_of};
 
 use super::digits::decode;
 use memchr::memchr;
@@ -21,6 +23,21 @@ pub fn cut(text: &[u8], separator: u8) -> (&[u8], Option<&[u8]>)
     }
 }
 
+/// The number that fewer than 20 decimal digits write. Any such number is below 2^64, so that only the digits are tested.
+fn short_number(word: &[u8]) -> Option<u64>
+    requires { length word.now < MOST_DIGITS }
+    ensures { result ≡ (if list_all is_ascii_digit word.now then Some (value_of word.now) else None) }
+{
+    let mut value = 0u64;
+    for digit in word {
+        if !digit.is_ascii_digit() {
+            return None;
+        }
+        value = value * 10 + u64::from(*digit - b'0');
+    }
+    Some(value)
+}
+
 /// The number that 1 to 20 decimal digits write, if it is below 2^64.
 pub fn number(word: &[u8]) -> Option<u64>
     ensures { result ≡ number_of word.now }
@@ -28,16 +45,13 @@ pub fn number(word: &[u8]) -> Option<u64>
     if word.is_empty() || word.len() > MOST_DIGITS {
         return None;
     }
-    let mut value = 0u64;
-    for digit in word {
-        if !digit.is_ascii_digit() {
-            return None;
-        }
-        value = value
-            .checked_mul(10)?
-            .checked_add(u64::from(*digit - b'0'))?;
+    let (front, last) = word.split_at(word.len() - 1);
+    let front = short_number(front)?;
+    let digit = last[0];
+    if !digit.is_ascii_digit() {
+        return None;
     }
-    Some(value)
+    front.checked_mul(10)?.checked_add(u64::from(digit - b'0'))
 }
 
 /// The same below 2^32.

@@ -1,4 +1,4 @@
-use Rattle.std.proofs.Common.{◌≡◌, ◌+◌, ◌-◌, ◌*◌, ◌∙◌, ◌++◌, List, ℕ, length, take, ap, sym, arith}
+use Rattle.std.proofs.Common.{◌≡◌, ◌+◌, ◌-◌, ◌*◌, ◌∙◌, ◌++◌, List, ℕ, length, ap, sym, arith}
 use Rattle.std.proofs.lemmas.List.{take_all}
 use lib.Lanes.{chunk}
 use Rattle.hex.specs.Hex.{encode_lower, lower_digits}

@@ -1,4 +1,4 @@
-use Rattle.std.proofs.Common.{◌+◌, ◌∷◌, [], List, ℕ, sym, subst}
+use Rattle.std.proofs.Common.{List, ℕ, sym, subst}
 use Rattle.std.proofs.lemmas.Fmt.{decimal_digit}
 use Rattle.xet_demo.specs.Pages.{Prints, output}
 use Rattle.xet_demo.proofs.print.page.Page.put_number.Goals as goal
