@@ -1,9 +1,9 @@
-use Rattle.std.proofs.Common.{◌≡◌, ◌∙◌, ℕ, List, length, Result, Ok, Err, ap, subst}
+use Rattle.std.proofs.Common.{◌≡◌, ◌∙◌, ℕ, List, length, Ok, Err, ap, subst}
 use Rattle.std.specs.Prelude.{⊤}
 use Rattle.std.proofs.lemmas.Result.{err_from_is_err_and}
 use Rattle.xet_store.specs.Answered.{Answered}
 use Rattle.xet_store.specs.StoreModel.{Chunks}
-use Rattle.xet_service.specs.Bodies.{Body, type_text}
+use Rattle.xet_service.specs.Bodies.{Body}
 use Rattle.xet_service.specs.Reading.{Gives}
 use Rattle.xet_service.proofs.Serving.{left_is, none_takes, is_left_at, more_takes, last_takes}
 use Rattle.xet_service.proofs.service.take.Goals as goal

@@ -1,4 +1,3 @@
-use Rattle.std.proofs.Common.{List}
 use Rattle.xet_service.specs.Reading.{left_link}
 use Rattle.xet_service.proofs.ReaderLinks.{given_left}
 use Rattle.xet_service.proofs.reader.Reader.accept.Goals as goal

@@ -1,5 +1,4 @@
-use Rattle.std.proofs.Common.{◌≡◌, ◌∙◌, List, ℕ, [], ◌∷◌, length, Option, None, sym, ap, subst, arith}
-use Rattle.xet_service.specs.declared.reader.held.HeldTerm.{HeldTerm}
+use Rattle.std.proofs.Common.{◌≡◌, ◌∙◌, length, sym, ap, subst, arith}
 use Rattle.xet_store.specs.StoreModel.{Chunks}
 use Rattle.xet_service.specs.Reading.{Reading}
 use Rattle.xet_service.specs.ReadingParts.{TakesAll}

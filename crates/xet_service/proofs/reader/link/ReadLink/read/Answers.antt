@@ -1,9 +1,9 @@
-use Rattle.std.proofs.Common.{◌≡◌, ◌∙◌, List, ℕ, ◌∷◌, [], Err, subst, refl, inl, inr, sym, ap}
+use Rattle.std.proofs.Common.{List, ℕ, ◌∷◌, [], Err, subst, refl, inl, inr}
 use Rattle.std.specs.Prelude.{⊤}
 use Rattle.std.proofs.lemmas.Result.{err_from_is_err_and}
 use Rattle.xet_types.specs.declared.record.XorbRangeDescriptor.{XorbRangeDescriptor}
 use Rattle.xet_store.specs.Answered.{Answered}
-use Rattle.xet_service.specs.Reading.{IsMultipart, IsReadInParts, IsCutInto}
+use Rattle.xet_service.specs.Reading.{IsReadInParts, IsCutInto}
 use Rattle.xet_service.specs.ReadingParts.{BringsCut, CutsApart}
 use Rattle.xet_service.proofs.PartsLaws.{split_refused, cut_brings}
 use Rattle.xet_service.proofs.reader.link.ReadLink.read.Goals as goal

@@ -1,9 +1,8 @@
-use Rattle.std.proofs.Common.{◌≡◌, ◌∙◌, List, ℕ, true, false, sym, ap}
+use Rattle.std.proofs.Common.{◌∙◌, List, sym, ap}
 use Rattle.std.specs.Prelude.{⊤}
 use Rattle.std.proofs.lemmas.Result.{err_from_is_err_and}
 use Rattle.xet_types.specs.Faults.{refusal_of}
 use Rattle.xet_types.specs.declared.record.XorbRangeDescriptor.{XorbRangeDescriptor}
-use Rattle.xet_service.specs.Reading.{AreSized}
 use Rattle.xet_service.specs.ReadingParts.{are_sized, BringsCut}
 use Rattle.xet_service.proofs.ReaderBodies.{refused}
 use Rattle.xet_service.proofs.PartsLaws.{are_long, unsized, chunks_refused, fits_so, misfits_so}
