@@ -41,3 +41,4 @@ pub mod Gathered
 pub mod PartsLaws
 pub mod Fetched
 pub mod Readable
+pub mod Grouped

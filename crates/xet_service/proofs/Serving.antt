@@ -10,12 +10,14 @@ use Rattle.std.specs.FinMap.{get, insert, remove, get-insert, get-remove, nat_cm
 use Rattle.xet_types.specs.Faults.{refusal_of}
 use Rattle.xet_types.specs.Records.{SecondPlan}
 use Rattle.xet_types.specs.declared.error.ClientError.{ClientError}
+use Rattle.xet_types.specs.declared.error.ClientError.TheVariants as errors
 use Rattle.xet_types.specs.declared.error.Refusal.{Refusal}
 use Rattle.xet_types.specs.declared.error.Refusal.TheVariants.{FormatError, InvalidRange, InvalidArguments, FileNotFound, XORBNotFound, PresignedUrlExpirationError, IOError, Other, InvalidKey, CacheError, HttpStatus}
 use Rattle.xet_types.specs.declared.range.Range.{Range}
 use Rattle.xet_types.specs.declared.range._F.{_F}
 use Rattle.xet_store.specs.Answered.{Answered, AnsweredErr}
 use Rattle.xet_store.specs.StoreModel.{StoreModel, Chunks}
+use Rattle.xet_store.specs.Refusals.{RefusedBy}
 use Rattle.xet_store.specs.Responses.{RespondsBy}
 use Rattle.xet_service.specs.declared.step.PlanVersion.{PlanVersion}
 use Rattle.xet_service.specs.Links.{answer_of}
@@ -27,10 +29,10 @@ use Rattle.xet_service.specs.declared.reply.Reply.TheVariants.{Done, Planned, Fe
 use Rattle.xet_service.specs.declared.read.OpenRead.{OpenRead}
 use Rattle.xet_service.specs.Links.{planned_links}
 use Rattle.xet_service.specs.Reading.{Reading, left_link, is_link_left, count_left, take_link, Gives, bytes_read}
-use Rattle.xet_service.specs.ReadingPlans.{can_open, reading_of}
+use Rattle.xet_service.specs.ReadingPlans.{can_open, reading_of, Opens as GivesRead}
 use Rattle.xet_service.specs.World.{State, Reads, state}
 use Rattle.xet_service.specs.Steps.{Outcome, refuses, used_up, open_links, open_plan, PlansBy, Does, DoesErr, no_note, fetch_done, with_reader, abandon_step, abandon_read}
-use Rattle.xet_service.specs.Requests.{IsOpenAt, IsWantedAt, IsLinkLeftAt, PutsAt, TakesAt}
+use Rattle.xet_service.specs.Requests.{OfLink, IsOpenAt, IsWantedAt, IsLinkLeftAt, PutsAt, TakesAt}
 use Rattle.xet_service.proofs.ReaderLinks.{given_left, count_given}
 
 abbrev some_read : OpenRead → Option OpenRead
@@ -178,6 +180,49 @@ open_err s t version plan range at why e = of (used_up s.next) (can_open plan) e
     of true c h = sym (ap (λ (o : Outcome). o.1) h)
     of false true h = links_err s t version plan range at why (planned_links plan) h
     of false false h = sym (ap (λ (o : Outcome). o.1) h)
+
+pub none_of : {X : Type 0} (xs : List X) (empty : Bool) → empty ≡ eqb (length xs) 0 → empty ≡ true → xs ≡ []
+none_of [] empty is e = refl
+none_of (x ∷ xs) empty is e = let none : length (x ∷ xs) ≡ 0 = eqb-true (length (x ∷ xs)) 0 (sym is ∙ e) in absurd (omega (arith, none))
+
+module _ (s : State) (version : PlanVersion) (plan : SecondPlan) (range : Option (Range ℕ _F)) (at : ℕ) (free : used_up s.next ≡ false) where
+  opens_if : (b : Bool) → can_open plan ≡ b → open_plan s version plan range at ≡ cond b (open_links s version plan range at (planned_links plan)) (refuses s InvalidArguments)
+  opens_if b can =
+      ap (λ (u : Bool). cond u (refuses s InvalidArguments) (cond (can_open plan) (open_links s version plan range at (planned_links plan)) (refuses s InvalidArguments))) free
+      ∙ ap (λ (u : Bool). cond u (open_links s version plan range at (planned_links plan)) (refuses s InvalidArguments)) can
+
+  -- a plan without links finishes at once
+  pub opens_done : (links : List PlannedLink) → can_open plan ≡ true → links ≡ planned_links plan → links ≡ [] → open_plan s version plan range at ≡ (Ok (Finished s.next [] 0 no_note), record s { next = s.next + 1 })
+  opens_done links can is none = opens_if true can ∙ ap (open_links s version plan range at) (sym is ∙ none)
+
+  -- one that gives no read is refused
+  pub opens_refused : (e : ClientError) → GivesRead plan range (Err e) → Answered {T = Reply} (Err e) (λ r. open_plan s version plan range at ≡ (r, s)) (s ≡ s)
+  opens_refused errors.InvalidArguments h = opens_if false h
+  opens_refused errors.OutOfMemory h = refl
+  opens_refused (errors.FormatError f) h = absurd h
+  opens_refused errors.InvalidRange h = absurd h
+  opens_refused (errors.FileNotFound f) h = absurd h
+  opens_refused (errors.XORBNotFound f) h = absurd h
+  opens_refused errors.PresignedUrlExpirationError h = absurd h
+  opens_refused errors.IOError h = absurd h
+  opens_refused (errors.Other t) h = absurd h
+  opens_refused (errors.InvalidKey t) h = absurd h
+  opens_refused (errors.CacheError t) h = absurd h
+  opens_refused (errors.HttpStatus n) h = absurd h
+
+pub no_read : (plan : SecondPlan) (range : Option (Range ℕ _F)) (e : ClientError) → GivesRead plan range (Err e) → RefusedBy {T = Reply} OfLink (Err e)
+no_read plan range errors.InvalidArguments h = tt
+no_read plan range errors.OutOfMemory h = tt
+no_read plan range (errors.FormatError f) h = absurd h
+no_read plan range errors.InvalidRange h = absurd h
+no_read plan range (errors.FileNotFound f) h = absurd h
+no_read plan range (errors.XORBNotFound f) h = absurd h
+no_read plan range errors.PresignedUrlExpirationError h = absurd h
+no_read plan range errors.IOError h = absurd h
+no_read plan range (errors.Other t) h = absurd h
+no_read plan range (errors.InvalidKey t) h = absurd h
+no_read plan range (errors.CacheError t) h = absurd h
+no_read plan range (errors.HttpStatus n) h = absurd h
 
 module _ (m : StoreModel) (reads reads_after : Reads) (next next_after : ℕ) (version : PlanVersion) (file : List ℕ) (range : Option (Range ℕ _F)) (at : ℕ) (plan : SecondPlan) (responds : RespondsBy (answer_of version m.max_ranges at) m file range (Ok (Some plan))) where
   abbrev Opens : Result Reply Refusal → Type 0

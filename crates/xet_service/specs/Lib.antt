@@ -1,4 +1,5 @@
 pub mod Links
+pub mod RunLinks
 pub mod Bodies
 pub mod World
 pub mod Steps

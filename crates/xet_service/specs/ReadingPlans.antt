@@ -88,32 +88,44 @@ with_terms n (l ∷ ls) hs = record l { held = l.held ++ filter (is_of_link n) h
 
 -- ---- the read
 
+-- how many bytes the terms have together
+abbrev pub total_of : List XorbReconstructionTerm → ℕ
+total_of ts = sum_by (λ (t : XorbReconstructionTerm). t.unpacked_length) ts
+
+-- each link's ranges are apart, each term lies in a range, and the offset doesn't pass the terms
+abbrev pub can_open_links : List ReadLink → List XorbReconstructionTerm → ℕ → Bool
+can_open_links links terms offset = all_apart links && (nat_le offset (total_of terms) && all_held (all_ranges 0 links) terms)
+
+-- the read of these links, each with the terms that its ranges hold
+abbrev pub reading_of_links : List ReadLink → List XorbReconstructionTerm → ℕ → Option (Range ℕ _F) → Reading
+reading_of_links links terms offset range = record {
+  terms = held_terms (all_ranges 0 links) terms;
+  offset = offset;
+  length = length_asked range;
+  links = with_terms 0 links (held_terms (all_ranges 0 links) terms);
+}
+
+-- Links, terms and an offset give an open read exactly where they can, unless memory runs out.
+abbrev pub OpensLinks : List ReadLink → List XorbReconstructionTerm → ℕ → Option (Range ℕ _F) → Result Reading ClientError → Type 0
+OpensLinks links terms offset range (Ok reading) = (can_open_links links terms offset ≡ true) × (reading ≡ reading_of_links links terms offset range)
+OpensLinks links terms offset range (Err OutOfMemory) = Unit {0}
+OpensLinks links terms offset range (Err InvalidArguments) = can_open_links links terms offset ≡ false
+OpensLinks links terms offset range (Err e) = ⊥
+
+-- ---- the read of a plan, all of whose links are left
+
 abbrev pub plan_ranges : SecondPlan → List LinkRange
 plan_ranges plan = all_ranges 0 (fresh_links plan.xorbs)
 
 abbrev pub plan_terms : SecondPlan → List HeldTerm
 plan_terms plan = held_terms (plan_ranges plan) plan.terms
 
--- how many bytes the terms have together
-abbrev pub total_of : List XorbReconstructionTerm → ℕ
-total_of ts = sum_by (λ (t : XorbReconstructionTerm). t.unpacked_length) ts
-
--- each link's ranges are apart, each term lies in a range, and the offset doesn't pass the terms
 abbrev pub can_open : SecondPlan → Bool
-can_open plan = all_apart (fresh_links plan.xorbs) && (nat_le plan.offset_into_first_range (total_of plan.terms) && all_held (plan_ranges plan) plan.terms)
+can_open plan = can_open_links (fresh_links plan.xorbs) plan.terms plan.offset_into_first_range
 
--- all links are left
 abbrev pub reading_of : SecondPlan → Option (Range ℕ _F) → Reading
-reading_of plan range = record {
-  terms = plan_terms plan;
-  offset = plan.offset_into_first_range;
-  length = length_asked range;
-  links = with_terms 0 (fresh_links plan.xorbs) (plan_terms plan);
-}
+reading_of plan range = reading_of_links (fresh_links plan.xorbs) plan.terms plan.offset_into_first_range range
 
 -- A plan gives an open read exactly where it can, unless memory runs out.
 abbrev pub Opens : SecondPlan → Option (Range ℕ _F) → Result Reading ClientError → Type 0
-Opens plan range (Ok reading) = (can_open plan ≡ true) × (reading ≡ reading_of plan range)
-Opens plan range (Err OutOfMemory) = Unit {0}
-Opens plan range (Err InvalidArguments) = can_open plan ≡ false
-Opens plan range (Err e) = ⊥
+Opens plan range result = OpensLinks (fresh_links plan.xorbs) plan.terms plan.offset_into_first_range range result

@@ -1,11 +1,12 @@
 //! Open reads as clients have them.
-ghost use Rattle.std.specs.Prelude.{◌≡◌, ◌++◌, true, nat_le, length, IfOk, OnOk, IsTrue, ⊤};
+ghost use Rattle.std.specs.Prelude.{◌≡◌, ℕ, ◌++◌, ◌<◌, true, nat_le, length, IfOk, OnOk, IsTrue, ⊤};
 ghost use Rattle.std.specs.List.{flat_map};
 ghost use Rattle.xet_store.specs.Answered.{Answered};
 ghost use Rattle.std.specs.Option.{option_copied};
 ghost use Rattle.xet_service.specs.Reading.{Reading, left_link, is_link_left, count_left, take_link, Gives, Accepts, held_text, bytes_read};
 ghost use Rattle.xet_service.specs.ReadingParts.{IsWhole};
-ghost use Rattle.xet_service.specs.ReadingPlans.{total_of, Opens};
+ghost use Rattle.xet_service.specs.ReadingPlans.{total_of, Opens, OpensLinks};
+ghost use Rattle.xet_service.specs.Links.{answer_of};
 ghost use Rattle.xet_service.specs.Gathering.{after_text};
 
 mod filled;
@@ -16,15 +17,20 @@ pub(crate) mod link;
 mod order;
 mod parts;
 
+use crate::links::most_runs;
 use crate::pieces::Pieces;
+use crate::step::PlanVersion;
 use bytes::Bytes;
 use filled::{Filled, first_chunks, takes_all};
 use gather::Gathering;
 use held::{HeldTerm, all_ranges, held_terms};
 use join::{asked_length, cut, push_chunks};
-use link::{ReadLink, all_apart, count_left, fresh_links, give_terms, nth_chunks, put_got};
+use link::{
+    ReadLink, all_apart, count_left, fresh_groups, fresh_links, give_terms, nth_chunks, put_got,
+};
 use std::alloc::Global;
 use std::marker::Model;
+use xet_plan::Plan;
 use xet_types::{
     ClientError, FileRange, Items, OutOfMemory, QueryReconstructionResponseV2,
     XorbReconstructionTerm,
@@ -81,19 +87,60 @@ impl Reader {
     ) -> Result<Reader, ClientError>
         ensures { Opens plan.now range result }
     {
-        let mut links = fresh_links(alloc, &plan.xorbs)?;
-        if !all_apart(&links) || !reaches(&plan.terms, plan.offset_into_first_range) {
+        let links = fresh_links(alloc, &plan.xorbs)?;
+        Reader::of_links(
+            alloc,
+            links,
+            &plan.terms,
+            plan.offset_into_first_range,
+            range,
+        )
+    }
+
+    /// Opens the read of a planner's plan in a version, whose links bring at most `max` runs of a xorb each in version 2. It is that of
+    /// the plan with its links, whatever the moment.
+    pub(crate) fn of_plan(
+        alloc: Global,
+        version: PlanVersion,
+        plan: &Plan,
+        max: usize,
+        range: Option<FileRange>,
+    ) -> Result<Reader, ClientError>
+        requires { 0 < max }
+        ensures { (at : ℕ) → Opens (answer_of version max at plan.now) range result }
+    {
+        let links = fresh_groups(alloc, &plan.merged, most_runs(version, max))?;
+        Reader::of_links(
+            alloc,
+            links,
+            &plan.terms,
+            plan.offset_into_first_range,
+            range,
+        )
+    }
+
+    /// Opens the read of links that are left.
+    fn of_links(
+        alloc: Global,
+        mut links: Vec<ReadLink>,
+        terms: &[XorbReconstructionTerm],
+        offset: u64,
+        range: Option<FileRange>,
+    ) -> Result<Reader, ClientError>
+        ensures { OpensLinks links.items terms.now offset range result }
+    {
+        if !all_apart(&links) || !reaches(terms, offset) {
             return Err(ClientError::InvalidArguments);
         }
         let ranges = all_ranges(alloc, &links)?;
-        let Some(terms) = held_terms(alloc, &ranges, &plan.terms)? else {
+        let Some(terms) = held_terms(alloc, &ranges, terms)? else {
             return Err(ClientError::InvalidArguments);
         };
         give_terms(&mut links, &terms)?;
         let left = count_left(&links);
         Ok(Reader {
             terms,
-            offset: plan.offset_into_first_range,
+            offset,
             length: asked_length(range),
             links,
             left,

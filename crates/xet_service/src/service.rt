@@ -1,5 +1,5 @@
 //! Requests of readers and writers, over a store.
-ghost use Rattle.std.specs.Prelude.{◌≡◌, Some, Err, IfOk, OnErr};
+ghost use Rattle.std.specs.Prelude.{◌≡◌, ◌<◌, Some, Err, IfOk, OnErr};
 ghost use Rattle.std.specs.FinMap.{get, insert};
 ghost use Rattle.std.specs.FinMap as finmap;
 ghost use Rattle.xet_plan.specs.Footers.{FailsOnlyByFault};
@@ -7,7 +7,6 @@ ghost use Rattle.xet_store.specs.StoreModel.{StoreModel};
 ghost use Rattle.xet_store.specs.Commands.{UploadsXorb, UploadsShard, InsertsSeeded, InsertsLazy};
 ghost use Rattle.xet_store.specs.Told.{Asks, Follows, Leaves};
 ghost use Rattle.xet_store.specs.TermData.{is_expired};
-ghost use Rattle.xet_store.specs.Responses.{RespondsBy};
 ghost use Rattle.xet_store.specs.Answered.{Answered};
 ghost use Rattle.xet_store.specs.Refusals.{RefusedBy, OfPlan, OfXorbBytes, OfXorbUpload, OfShardUpload, OfGenerated};
 ghost use Rattle.xet_service.specs.declared.reply.Reply.TheVariants.{Uploaded, ShardTaken, Size, Data, Random};
@@ -30,10 +29,11 @@ use bytes::Bytes;
 use std::alloc::Global;
 use xet_bytes::ByNumber;
 use xet_generated::RandomFileContents;
+use xet_plan::Plan;
 use xet_store::Store;
 use xet_types::{
     BatchQueryReconstructionResponse, ClientError, FileRange, Items, MerkleHash, Octets,
-    OutOfMemory, QueryReconstructionResponseV2, XorbRangeDescriptor,
+    OutOfMemory, XorbRangeDescriptor,
 };
 use xet_xorb::{RandomXorb, SerializedXorbObject};
 
@@ -228,30 +228,6 @@ fn upload_shard<K: Store>(
     store.upload_shard(alloc, content)
 }
 
-/// The store's plan of a file in a version, as one of version 2.
-fn ask_plan<K: Store>(
-    alloc: Global,
-    store: &mut K,
-    version: PlanVersion,
-    file: &MerkleHash,
-    range: Option<FileRange>,
-    at: u64,
-) -> Result<Option<QueryReconstructionResponseV2>, ClientError>
-    ensures told { (m : StoreModel) → K.Client.told store.old ≡ Some m → Asks (RespondsBy (answer_of version m.max_ranges at) m file.now range) result }
-    ensures refusals { RefusedBy OfPlan result }
-    ensures stays { K.Client.told store.new ≡ K.Client.told store.old }
-    ensures cause { FailsOnlyByFault (K.Client.faults store.old) (K.Client.faults store.new) result }
-{
-    if version == PlanVersion::V2 {
-        return store.get_reconstruction_v2(alloc, file, range, at);
-    }
-    let Some(plan) = store.get_reconstruction_v1(alloc, file, range, at)? else {
-        return Ok(None);
-    };
-    let plan = QueryReconstructionResponseV2::from_v1(alloc, plan)?;
-    Ok(Some(plan))
-}
-
 /// Plans that were taken together, as a reply.
 fn batch_reply(alloc: Global, batch: BatchQueryReconstructionResponse) -> Result<Reply, OutOfMemory>
     ensures reply { IfOk result (λ reply. reply ≡ batch_reply batch) }
@@ -342,17 +318,19 @@ fn replace(reads: &mut ByNumber<OpenRead>, number: u64, read: OpenRead) -> OpenR
 }
 
 impl<K> ChunkService<K> {
-    /// Opens the read of a plan.
+    /// Opens the read of a plan, whose links bring at most `max` runs of a xorb each in version 2.
     fn open(
         &mut self,
         alloc: Global,
         version: PlanVersion,
-        plan: QueryReconstructionResponseV2,
+        plan: Plan,
+        max: usize,
         range: Option<FileRange>,
         at: u64,
     ) -> Result<Reply, ClientError>
+        requires { 0 < max }
         ensures store { self.new.store ≡ self.old.store }
-        ensures opens { (m : StoreModel) → Answered result (λ r. open_plan (state m self.old.reads self.old.next) version plan range at ≡ (r, state m self.new.reads self.new.next)) (state m self.new.reads self.new.next ≡ state m self.old.reads self.old.next) }
+        ensures opens { (m : StoreModel) → Answered result (λ r. open_plan (state m self.old.reads self.old.next) version (answer_of version max at plan) range at ≡ (r, state m self.new.reads self.new.next)) (state m self.new.reads self.new.next ≡ state m self.old.reads self.old.next) }
         ensures refusals { RefusedBy OfLink result }
         ensures answers { IfOk result IsAnswer }
         ensures kept { KeepsReads result self.old.reads self.new.reads self.old.next self.new.next }
@@ -361,8 +339,8 @@ impl<K> ChunkService<K> {
         if read == u64::MAX {
             return Err(ClientError::InvalidArguments);
         }
-        let reader = Reader::open(alloc, &plan, range)?;
-        let links = Items::from_vec(links_of(alloc, plan.xorbs)?);
+        let reader = Reader::of_plan(alloc, version, &plan, max, range)?;
+        let links = Items::from_vec(links_of(alloc, version, &plan.merged, max, at)?);
         if links.is_empty() {
             self.next = read + 1;
             return Ok(Reply::Finished {
@@ -480,10 +458,11 @@ impl<K: Store> ChunkService<K> {
         ensures kept { KeepsReads result self.old.reads self.new.reads self.old.next self.new.next }
         ensures cause { FailsOnlyByFault (K.Client.faults self.old.store) (K.Client.faults self.new.store) result }
     {
-        let Some(plan) = ask_plan(alloc, &mut self.store, version, file, range, at)? else {
+        let Some(plan) = self.store.plan_file(alloc, file, range)? else {
             return Ok(Reply::NoPlan);
         };
-        self.open(alloc, version, plan, range, at)
+        let max = self.store.max_ranges_per_fetch();
+        self.open(alloc, version, plan, max, range, at)
     }
 
     /// Fetches a link of an open read, and finishes the read with the last one.

@@ -14,7 +14,7 @@ use Rattle.xet_plan.specs.declared.place.Reach.TheVariants.{Past, Reversed, With
 use Rattle.xet_plan.specs.FileBytes.{Content, Describes, term_bytes, file_bytes as bytes_within}
 use Rattle.xet_plan.specs.Plans.{PlanModel}
 use Rattle.xet_plan.specs.Answers.{IsPlan}
-use Rattle.xet_store.specs.StoreModel.{StoreModel, listing, known_of, content_of}
+use Rattle.xet_store.specs.StoreModel.{StoreModel, IsSound, listing, known_of, content_of}
 
 -- the length of the asked range, where one is given
 abbrev pub length_asked : Option (Range ℕ _F) → Option ℕ
@@ -54,6 +54,11 @@ PlansListed known range (Some segments) result = PlansReached known segments ran
 -- reversed is refused; then the first fault of a met segment; else the plan.
 abbrev pub PlansFile : StoreModel → List ℕ → Option (Range ℕ _F) → Result (Option PlanModel) Refusal → Type 0
 PlansFile m file range result = PlansListed (known_of m) range (listing m file) result
+
+-- The answer is that of the file's plan; and each stored chunk list is well formed and has its name.
+pub record PlansSoundly (m : StoreModel) (file : List ℕ) (range : Option (Range ℕ _F)) (result : Result (Option PlanModel) Refusal) : Type 0 where
+  pub plans : PlansFile m file range result
+  pub sound : IsSound m
 
 -- ---- the bytes of a file
 

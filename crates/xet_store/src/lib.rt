@@ -6,6 +6,7 @@ pub mod client;
 pub mod deletion;
 pub mod direct_access;
 pub mod memory;
+pub mod runs;
 pub mod store;
 pub mod upload;
 
@@ -13,6 +14,7 @@ pub use client::Client;
 pub use deletion::DeletionControlableClient;
 pub use direct_access::{DirectAccessClient, second_plans_are_regrouped};
 pub use memory::MemoryClient;
+pub use runs::descriptor;
 pub use store::Store;
 pub use upload::upload_random_file;
 

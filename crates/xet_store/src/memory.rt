@@ -765,6 +765,19 @@ impl Store for MemoryClient {
         self.expiration
     }
 
+    fn max_ranges_per_fetch(&mut self) -> usize {
+        self.max_ranges
+    }
+
+    fn plan_file(
+        &mut self,
+        alloc: Global,
+        file: &MerkleHash,
+        range: Option<FileRange>,
+    ) -> Result<Option<Plan>, ClientError> {
+        self.plan(alloc, file, range)
+    }
+
     fn insert_random_xorb(
         &mut self,
         alloc: Global,

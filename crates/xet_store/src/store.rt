@@ -1,5 +1,5 @@
 //! What every store does.
-ghost use Rattle.std.specs.Prelude.{◌≡◌, Some, Ok};
+ghost use Rattle.std.specs.Prelude.{◌≡◌, ◌<◌, Some, Ok};
 ghost use Rattle.std.specs.Option.{option_map};
 ghost use Rattle.xet_plan.specs.Footers.{FailsOnlyByFault};
 ghost use Rattle.xet_store.specs.StoreModel.{StoreModel, known_of};
@@ -9,14 +9,15 @@ ghost use Rattle.xet_store.specs.Checks.{checked, readable, IsServing};
 ghost use Rattle.xet_store.specs.Commands.{Is, InsertsLazy, insert_xorb};
 ghost use Rattle.xet_store.specs.Acceptance.{AcceptsTerms};
 ghost use Rattle.xet_generated.specs.Contents.{lazy_contents};
+ghost use Rattle.xet_store.specs.Plans.{PlansSoundly};
 ghost use Rattle.xet_store.specs.Batches.{RespondsToAll};
 
 use crate::deletion::DeletionControlableClient;
 use crate::direct_access::DirectAccessClient;
 use std::alloc::Global;
 use xet_generated::RandomFileContents;
-use xet_plan::Footers;
-use xet_types::{BatchQueryReconstructionResponse, ClientError, MerkleHash};
+use xet_plan::{Footers, Plan};
+use xet_types::{BatchQueryReconstructionResponse, ClientError, FileRange, MerkleHash};
 use xet_xorb::RandomXorb;
 
 /// A store: all calls of its clients over one model and one count of faults, and the footers of its xorbs.
@@ -37,6 +38,26 @@ pub trait Store: DirectAccessClient + DeletionControlableClient + Footers {
         ensures told { (m : StoreModel) → Self.Client.told self.old ≡ Some m → result ≡ m.expiration }
         ensures stays { Self.Client.told self.new ≡ Self.Client.told self.old }
         ensures faultless { Self.Client.faults self.new ≡ Self.Client.faults self.old };
+
+    /// How many runs of a xorb's chunks a link of version 2 brings at most, which is at least 1. Takes no memory.
+    fn max_ranges_per_fetch(&mut self) -> usize
+        ensures told { (m : StoreModel) → Self.Client.told self.old ≡ Some m → result ≡ m.max_ranges }
+        ensures some { 0 < result }
+        ensures stays { Self.Client.told self.new ≡ Self.Client.told self.old }
+        ensures faultless { Self.Client.faults self.new ≡ Self.Client.faults self.old };
+
+    /// The plan of a file, or of a range of its bytes, without links. None where it isn't live or the range begins at or past its
+    /// end; `InvalidRange` where the range's end isn't above its start; else the first fault of a segment that the range meets.
+    fn plan_file(
+        &mut self,
+        alloc: Global,
+        file: &MerkleHash,
+        range: Option<FileRange>,
+    ) -> Result<Option<Plan>, ClientError>
+        ensures told { (m : StoreModel) → Self.Client.told self.old ≡ Some m → Asks (PlansSoundly m file.now range) result }
+        ensures refusals { RefusedBy OfPlan result }
+        ensures stays { Self.Client.told self.new ≡ Self.Client.told self.old }
+        ensures cause { FailsOnlyByFault (Self.Client.faults self.old) (Self.Client.faults self.new) result };
 
     /// Stores a generated xorb, where none is stored under its name, and answers the name. No shard lists it.
     fn insert_random_xorb(

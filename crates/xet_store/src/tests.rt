@@ -124,6 +124,10 @@ enum Call {
     DeleteShard(&'static [u8; 32]),
     Hide(&'static [u8; 32]),
     SetExpiration(u64),
+    /// The terms' bytes of a file's plan without links.
+    Terms(&'static [u8; 32], Option<(u64, u64)>),
+    SetMaxRanges(usize),
+    MaxRanges,
     SetDedupExpiration(Option<u64>),
     Expiration,
 }
@@ -317,6 +321,23 @@ fn plan<K: Store>(
     Ok(Got::Done)
 }
 
+/// How many bytes the terms of the plan have together.
+fn terms<K: Store>(
+    store: &mut K,
+    alloc: Global,
+    file: &[u8; 32],
+    range: Option<FileRange>,
+) -> Result<Got, ClientError> {
+    let Some(plan) = store.plan_file(alloc, &MerkleHash::from_bytes(*file), range)? else {
+        return Ok(Got::Nothing);
+    };
+    let mut bytes = 0u64;
+    for term in &plan.terms {
+        bytes = bytes.saturating_add(u64::from(term.unpacked_length));
+    }
+    Ok(Got::Number(bytes))
+}
+
 fn exists<K: Store>(store: &mut K, alloc: Global, hash: &[u8; 32]) -> Result<Got, ClientError> {
     let there = store.xorb_exists(alloc, &MerkleHash::from_bytes(*hash))?;
     Ok(Got::Number(u64::from(there)))
@@ -464,6 +485,11 @@ fn set_expiration<K: Store>(store: &mut K, millis: u64) -> Result<Got, ClientErr
     Ok(Got::Done)
 }
 
+fn set_max_ranges<K: Store>(store: &mut K, max: usize) -> Result<Got, ClientError> {
+    store.set_max_ranges_per_fetch(max)?;
+    Ok(Got::Done)
+}
+
 fn set_dedup_expiration<K: Store>(store: &mut K, millis: Option<u64>) -> Result<Got, ClientError> {
     store.set_global_dedup_shard_expiration(millis)?;
     Ok(Got::Done)
@@ -504,6 +530,9 @@ fn answer<K: Store>(store: &mut K, alloc: Global, call: &Call) -> Result<Got, Cl
         Call::DeleteShard(name) => delete_shard(store, alloc, name),
         Call::Hide(file) => hide(store, alloc, file),
         Call::SetExpiration(millis) => set_expiration(store, *millis),
+        Call::Terms(file, range) => terms(store, alloc, file, range_of(*range)),
+        Call::SetMaxRanges(max) => set_max_ranges(store, *max),
+        Call::MaxRanges => Ok(Got::Number(store.max_ranges_per_fetch() as u64)),
         Call::SetDedupExpiration(millis) => set_dedup_expiration(store, *millis),
         Call::Expiration => Ok(Got::Number(store.fetch_term_url_expiration())),
     }
@@ -559,6 +588,9 @@ const ROWS: &[(Call, Want)] = &[
     (Call::Expiration, Want::Number(18_446_744_073_709_551_615)),
     (Call::SetExpiration(5), Want::Done),
     (Call::Expiration, Want::Number(5)),
+    (Call::MaxRanges, Want::Number(18_446_744_073_709_551_615)),
+    (Call::SetMaxRanges(3), Want::Done),
+    (Call::MaxRanges, Want::Number(3)),
     (Call::Xorbs, Want::Nothing),
     (Call::Xorb(OTHER, TORN), Want::BadXorb),
     (Call::Xorb(OTHER, XORB), Want::Other),
@@ -608,6 +640,11 @@ const ROWS: &[(Call, Want)] = &[
     ),
     (Call::Plan(FILE, Some((5, 6))), Want::Nothing),
     (Call::Plan(FILE, Some((2, 2))), Want::BadRange),
+    (Call::Terms(FILE, None), Want::Number(5)),
+    (Call::Terms(FILE, Some((2, 3))), Want::Number(5)),
+    (Call::Terms(FILE, Some((5, 6))), Want::Nothing),
+    (Call::Terms(FILE, Some((2, 2))), Want::BadRange),
+    (Call::Terms(OTHER, None), Want::Nothing),
     (Call::DeleteShard(SECOND), Want::Done),
     (Call::DeleteShard(SECOND), Want::Other),
     (Call::Info(FILE), Want::Text(FIRST)),

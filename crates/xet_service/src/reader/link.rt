@@ -1,20 +1,24 @@
 //! The links of a reader, and what their bodies bring.
-ghost use Rattle.std.specs.Prelude.{◌≡◌, ◌↔◌, ◌++◌, map, length, sum, IfOk, OnOk, IsTrue, slice_get, ⊤};
+ghost use Rattle.std.specs.Prelude.{◌≡◌, ◌↔◌, ◌++◌, ◌<◌, map, length, sum, IfOk, OnOk, IsTrue, slice_get, ⊤};
+ghost use Rattle.std.specs.List.{flat_map};
 ghost use Rattle.xet_types.specs.RecordMaps.{listed};
+ghost use Rattle.xet_plan.specs.Merging.{ranges_shown};
 ghost use Rattle.xet_store.specs.Answered.{Answered};
 ghost use Rattle.xet_service.specs.Reading.{count_left, with_got, cut_of_range, has_length, nth_chunks, have_lengths, have_counts, fits, Brings};
 ghost use Rattle.xet_service.specs.ReadingPlans.{fresh_link, xorb_links, fresh_links, are_apart, all_apart, with_terms};
 ghost use Rattle.xet_service.specs.ReadingParts.{BringsCut};
 ghost use Rattle.xet_service.specs.ReadingSteps.{give_term};
+ghost use Rattle.xet_service.specs.RunLinks.{fresh_group, fresh_groups};
 
 use super::held::HeldTerm;
 use super::join::part;
 use super::parts::{are_sized, is_multipart, read_parts, split, unlike};
-use crate::links::count_links;
+use crate::links::{count_groups, count_links, descriptors};
 use bytes::Bytes;
 use std::alloc::Global;
 use std::collections::BTreeMap;
 use std::slice;
+use xet_plan::MergedRange;
 use xet_types::{
     ClientError, FormatFault, HexMerkleHash, Items, MerkleHash, OutOfMemory, XorbMultiRangeFetch,
     XorbRangeDescriptor,
@@ -74,6 +78,59 @@ pub fn fresh_links(
     let mut links = Vec::with_capacity(alloc, count_links(xorbs))?;
     for (hash, fetches) in xorbs {
         push_links(alloc, &mut links, &hash.0, fetches)?;
+    }
+    Ok(links)
+}
+
+/// A link of some runs of a xorb's chunks, which is left.
+fn fresh_group(
+    alloc: Global,
+    hash: &MerkleHash,
+    runs: &[MergedRange],
+) -> Result<ReadLink, OutOfMemory>
+    ensures { IfOk result (λ link. link ≡ fresh_group hash.now runs.now) }
+{
+    Ok(ReadLink {
+        hash: *hash,
+        ranges: Items::from_vec(descriptors(alloc, runs)?),
+        held: Items::from_vec(Vec::with_capacity(alloc, 1)?),
+        got: None,
+    })
+}
+
+/// Adds a link for each group of at most `max` runs of a xorb's chunks.
+fn push_groups(
+    alloc: Global,
+    links: &mut Vec<ReadLink>,
+    hash: &MerkleHash,
+    runs: &[MergedRange],
+    max: usize,
+) -> Result<(), OutOfMemory>
+    requires { 0 < max }
+    ensures { OnOk result (links.new.items ≡ links.old.items ++ fresh_groups max (hash.now, runs.now)) }
+{
+    let mut rest = runs;
+    while !rest.is_empty() {
+        let (group, others) = rest.split_at(max.min(rest.len()));
+        let link = fresh_group(alloc, hash, group)?;
+        links.push(link)?;
+        rest = others;
+    }
+    Ok(())
+}
+
+/// The links of the runs of a plan's xorbs in order, each of at most `max` runs, all left.
+pub fn fresh_groups(
+    alloc: Global,
+    merged: &[(MerkleHash, Vec<MergedRange>)],
+    max: usize,
+) -> Result<Vec<ReadLink>, OutOfMemory>
+    requires { 0 < max }
+    ensures { IfOk result (λ links. links.items ≡ flat_map (fresh_groups max) (map ranges_shown merged.now)) }
+{
+    let mut links = Vec::with_capacity(alloc, count_groups(merged, max))?;
+    for (hash, runs) in merged {
+        push_groups(alloc, &mut links, hash, runs, max)?;
     }
     Ok(links)
 }

@@ -7,25 +7,14 @@ ghost use Rattle.xet_plan.specs.Merging.{group_of, ranges_shown};
 ghost use Rattle.xet_plan.specs.Answers.{groups_of};
 ghost use Rattle.xet_store.specs.Responses.{descriptor_of, ranges_fetch, ranges_fetches, second_at};
 
+use crate::runs::descriptor;
 use std::alloc::Global;
 use std::collections::BTreeMap;
 use xet_plan::{MergedRange, Plan, group};
 use xet_types::{
-    HexMerkleHash, HttpRange, MerkleHash, OutOfMemory, QueryReconstructionResponseV2,
-    XorbMultiRangeFetch, XorbRangeDescriptor,
+    HexMerkleHash, MerkleHash, OutOfMemory, QueryReconstructionResponseV2, XorbMultiRangeFetch,
 };
 use xet_wire::generate_v2_fetch_url;
-
-/// The chunks of a run, and their bytes with an inclusive end.
-fn descriptor(run: &MergedRange) -> XorbRangeDescriptor
-    ensures { result ≡ descriptor_of run.now }
-{
-    let bytes = &run.byte_range;
-    XorbRangeDescriptor {
-        chunks: run.chunk_range,
-        bytes: HttpRange::new(bytes.start, bytes.end.saturating_sub(1)),
-    }
-}
 
 /// The link of some runs of a xorb's chunks.
 fn ranges_fetch(
