@@ -1,7 +1,9 @@
 //! Replies as text.
-ghost use Rattle.std.specs.Prelude.{◌≡◌, ◌++◌, length, codes};
+ghost use Rattle.std.specs.Prelude.{◌≡◌, ◌∷◌, ◌++◌, length, codes};
+ghost use Rattle.std.specs.Fmt.{decimal};
 ghost use Rattle.std.specs.List.{concat, flat_map};
 ghost use Rattle.hex.specs.Hex.{encode_lower};
+ghost use Rattle.xet_wire.specs.Links.{link_text};
 ghost use Rattle.xet_demo.specs.Pages.{Prints, output};
 ghost use Rattle.xet_demo.specs.Printed.{octets_text, truth_word, version_word, uploaded_line, shard_line, none_line, done_line, size_line, dedup_start, data_start, plan_line, term_line, terms_text, range_text, ranges_text, link_start, link_line, links_text, cache_word, note_text, fetched_start, finished_start, refusal_word, refusal_detail, refused_line, reply_text, replies_text, hashes_start, hash_line, hashes_text, files_start, entry_line, entries_text, random_line, lazy_line, batch_start, file_start, file_text, all_files_text, entry_start, xorb_entry_line, xorb_entries_text};
 ghost use Rattle.xet_demo.specs.Summaries.{report_text};
@@ -13,9 +15,11 @@ pub mod summary;
 use bytes::Bytes;
 use page::Page;
 use summary::print_summary;
-use xet_service::{CacheNote, CacheRefusal, Pieces, PlanVersion, PlannedLink, Reply};
+use xet_service::{
+    CacheNote, CacheRefusal, LinkText, Pieces, PlanVersion, PlannedLink, Reply, Spelling,
+};
 use xet_types::{
-    FormatFault, Items, MerkleHash, Octets, Refusal, Sink, XorbRangeDescriptor,
+    FileRange, FormatFault, Items, MerkleHash, Octets, Refusal, Sink, XorbRangeDescriptor,
     XorbReconstructionTerm,
 };
 
@@ -282,14 +286,48 @@ fn print_ranges<K: Sink>(page: &mut Page, sink: &mut K, ranges: &[XorbRangeDescr
     }
 }
 
+/// Prints a number behind a colon.
+fn print_behind_colon<K: Sink>(page: &mut Page, sink: &mut K, number: u64)
+    ensures { Prints (output (K.taken sink.old) (K.faults sink.old) page.old) (output (K.taken sink.new) (K.faults sink.new) page.new) (58 ∷ decimal number) }
+{
+    page.put(sink, b":");
+    page.put_number(sink, number);
+}
+
+/// Prints the text of a link of version 1.
+fn print_first_link<K: Sink>(
+    page: &mut Page,
+    sink: &mut K,
+    hash: &MerkleHash,
+    bytes: &FileRange,
+    at: u64,
+)
+    ensures { Prints (output (K.taken sink.old) (K.faults sink.old) page.old) (output (K.taken sink.new) (K.faults sink.new) page.new) (link_text hash.now bytes.now.start bytes.now.end at) }
+{
+    page.put_hash(sink, hash);
+    print_behind_colon(page, sink, bytes.start);
+    print_behind_colon(page, sink, bytes.end);
+    print_behind_colon(page, sink, at);
+}
+
+/// Prints the text of a link. That of one of version 1 is made of what spells it.
+fn print_link_text<K: Sink>(page: &mut Page, sink: &mut K, text: &LinkText)
+    ensures { Prints (output (K.taken sink.old) (K.faults sink.old) page.old) (output (K.taken sink.new) (K.faults sink.new) page.new) text.now }
+{
+    match text.spelling() {
+        Spelling::First { hash, bytes, at } => print_first_link(page, sink, hash, bytes, *at),
+        Spelling::Text(text) => page.put(sink, text.as_slice()),
+    }
+}
+
 #[tactic(auto, unfolding(crate::specs::Printed::link_start))]
-fn print_link_start<K: Sink>(page: &mut Page, sink: &mut K, number: usize, url: &Octets)
+fn print_link_start<K: Sink>(page: &mut Page, sink: &mut K, number: usize, url: &LinkText)
     ensures { Prints (output (K.taken sink.old) (K.faults sink.old) page.old) (output (K.taken sink.new) (K.faults sink.new) page.new) (link_start number url.now) }
 {
     page.put(sink, b"link ");
     page.put_number(sink, number as u64);
     page.put(sink, b" ");
-    page.put(sink, url.as_slice());
+    print_link_text(page, sink, url);
     page.put(sink, b" ");
 }
 
@@ -445,13 +483,13 @@ fn print_all_files<K: Sink>(
 }
 
 #[tactic(auto, unfolding(crate::specs::Printed::entry_start))]
-fn print_entry_start<K: Sink>(page: &mut Page, sink: &mut K, hash: &MerkleHash, url: &Octets)
+fn print_entry_start<K: Sink>(page: &mut Page, sink: &mut K, hash: &MerkleHash, url: &LinkText)
     ensures { Prints (output (K.taken sink.old) (K.faults sink.old) page.old) (output (K.taken sink.new) (K.faults sink.new) page.new) (entry_start hash.now url.now) }
 {
     page.put(sink, b"entry ");
     page.put_hash(sink, hash);
     page.put(sink, b" ");
-    page.put(sink, url.as_slice());
+    print_link_text(page, sink, url);
     page.put(sink, b" ");
 }
 

@@ -1,5 +1,6 @@
 pub mod Links
 pub mod RunLinks
+pub mod LinkTexts
 pub mod Bodies
 pub mod World
 pub mod Steps

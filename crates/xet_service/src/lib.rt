@@ -10,6 +10,7 @@ pub mod reply;
 pub mod run;
 pub mod service;
 pub mod step;
+pub mod text;
 
 pub use body::{TermBody, fetch_term_body};
 pub use pieces::Pieces;
@@ -18,3 +19,4 @@ pub use reply::{CacheNote, CacheRefusal, PlannedLink, Reply};
 pub use run::run_steps;
 pub use service::ChunkService;
 pub use step::{Act, PlanVersion, Step};
+pub use text::{LinkText, Spelling};

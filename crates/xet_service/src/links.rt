@@ -10,6 +10,7 @@ ghost use Rattle.xet_service.specs.RunLinks.{most_runs, run_link, group_link, ru
 
 use crate::reply::PlannedLink;
 use crate::step::PlanVersion;
+use crate::text::LinkText;
 use std::alloc::Global;
 use std::collections::BTreeMap;
 use xet_plan::MergedRange;
@@ -18,7 +19,7 @@ use xet_types::{
     HexMerkleHash, Items, MerkleHash, Octets, OutOfMemory, XorbRangeDescriptor,
     XorbReconstructionFetchInfo, XorbReconstructionTerm,
 };
-use xet_wire::{generate_fetch_url, generate_v2_fetch_url};
+use xet_wire::generate_v2_fetch_url;
 
 /// How many links the xorbs have together, up to the type's end.
 pub(crate) fn count_links<T>(xorbs: &BTreeMap<HexMerkleHash, Vec<T>>) -> usize {
@@ -61,10 +62,9 @@ fn run_link(
 {
     let mut ranges = Vec::with_capacity(alloc, 1)?;
     ranges.push(descriptor(run))?;
-    let url = generate_fetch_url(alloc, hash, &run.byte_range, at)?;
     Ok(PlannedLink {
         hash: *hash,
-        url: Octets::from_vec(url.into_bytes())?,
+        url: LinkText::first(*hash, run.byte_range, at),
         ranges: Items::from_vec(ranges),
     })
 }
@@ -82,7 +82,7 @@ fn group_link(
     let url = generate_v2_fetch_url(alloc, hash, &ranges, at)?;
     Ok(PlannedLink {
         hash: *hash,
-        url: Octets::from_vec(url.into_bytes())?,
+        url: LinkText::from_text(Octets::from_vec(url.into_bytes())?),
         ranges: Items::from_vec(ranges),
     })
 }
@@ -194,7 +194,7 @@ fn entry_link(
     })?;
     Ok(PlannedLink {
         hash: *hash,
-        url: Octets::from_vec(entry.url.into_bytes())?,
+        url: LinkText::from_text(Octets::from_vec(entry.url.into_bytes())?),
         ranges: Items::from_vec(ranges),
     })
 }

@@ -1,6 +1,7 @@
 //! What a step answers.
 use crate::pieces::Pieces;
 use crate::step::PlanVersion;
+use crate::text::LinkText;
 use xet_types::{Items, MerkleHash, Octets, Refusal, XorbRangeDescriptor, XorbReconstructionTerm};
 
 /// A link of a plan: what one fetch brings.
@@ -9,7 +10,7 @@ pub struct PlannedLink {
     /// The xorb.
     pub hash: MerkleHash,
     /// The link's text.
-    pub url: Octets,
+    pub url: LinkText,
     /// The chunks that it brings.
     pub ranges: Items<XorbRangeDescriptor>,
 }

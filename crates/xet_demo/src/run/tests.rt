@@ -2,7 +2,7 @@
 use super::*;
 use bytes::Bytes;
 use std::test::Fail;
-use xet_service::{CacheNote, CacheRefusal, Pieces, PlanVersion, PlannedLink};
+use xet_service::{CacheNote, CacheRefusal, LinkText, Pieces, PlanVersion, PlannedLink};
 use xet_types::{
     ChunkRange, FormatFault, HttpRange, Items, MemorySink, MemorySource, MerkleHash, Octets,
     Refusal, XorbRangeDescriptor, XorbReconstructionTerm,
@@ -76,7 +76,7 @@ fn replies(alloc: Global) -> Result<Vec<Reply>, Fail> {
     let mut links = Vec::new(alloc);
     links.push(PlannedLink {
         hash,
-        url: Octets::from_vec(Vec::from_slice(alloc, b"url")?)?,
+        url: LinkText::from_text(Octets::from_vec(Vec::from_slice(alloc, b"url")?)?),
         ranges: Items::from_vec(ranges),
     })?;
     let mut all = Vec::new(alloc);
