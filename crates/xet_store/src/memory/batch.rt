@@ -1,5 +1,5 @@
 //! Plans of several files, taken together.
-ghost use Rattle.std.specs.Prelude.{◌≡◌, map, IfOk, OnOk, ⊤};
+ghost use Rattle.std.specs.Prelude.{◌≡◌, [], ◌∷◌, map, IfOk, OnOk, ⊤};
 ghost use Rattle.std.specs.FinMap.Entries.{put};
 ghost use Rattle.xet_types.specs.Names.{hash_cmp};
 ghost use Rattle.xet_types.specs.RecordMaps.{listed};
@@ -125,6 +125,29 @@ fn runs_of_xorbs(
     Ok(merged)
 }
 
+/// The plan of a whole file alone, whose lists go on as they are.
+fn plan_alone(
+    store: &MemoryClient,
+    alloc: Global,
+    only: &MerkleHash,
+) -> Result<FilePlans, ClientError>
+    ensures answer { Answered result (PlansAll store.now (only.now ∷ [])) ⊤ }
+    ensures refusals { RefusedBy OfPlan result }
+{
+    let Some(plan) = store.plan(alloc, only, None)? else {
+        return Ok(FilePlans {
+            files: Vec::new(alloc),
+            merged: Vec::new(alloc),
+        });
+    };
+    let mut files = Vec::with_capacity(alloc, 1)?;
+    files.push((*only, Items::from_vec(plan.terms)))?;
+    Ok(FilePlans {
+        files,
+        merged: plan.merged,
+    })
+}
+
 /// The plans of whole files, taken together, without links.
 pub fn plans_of_files(
     store: &MemoryClient,
@@ -134,6 +157,9 @@ pub fn plans_of_files(
     ensures answer { Answered result (PlansAll store.now files.now) ⊤ }
     ensures refusals { RefusedBy OfPlan result }
 {
+    if let [only] = files {
+        return plan_alone(store, alloc, only);
+    }
     let taken = take(store, alloc, files)?;
     let files = terms_of_files(alloc, taken.terms)?;
     let merged = runs_of_xorbs(alloc, taken.runs)?;
