@@ -1,7 +1,8 @@
 -- The order of pairs of a hash and a number.
 use Rattle.std.proofs.Common.{rules, arith, ◌≡◌, ◌∙◌, ℕ, ◌<◌, List, Option, Some, None, false, refl, sym, ap, subst}
+use Rattle.std.specs.Bool.{⊤}
 use Rattle.std.specs.Option.{IsSome}
-use Rattle.std.specs.Ordering.{nat_cmp, is_gt, is_lt, ordering_then, ordering_reverse}
+use Rattle.std.specs.Ordering.{nat_cmp, is_lt, ordering_then}
 use Rattle.std.specs.Map.{lookup}
 use Rattle.std.specs.BTreeMap.{is_at}
 use Rattle.std.proofs.lemmas.Cmp.{tied_itself}
@@ -34,59 +35,62 @@ hashes_exact x y e =
       | Greater ↦ λ p q. absurd cc
     ] refl e
 
--- ---- the pairs of one hash, up to an end
+-- ---- the pairs of one hash, below an end
 
-zero_first : (n : ℕ) → is_gt (nat_cmp 0 n) ≡ false
-zero_first n = search rules
+-- the numbers decide between pairs of one hash
+by_number : (h : List ℕ) (m n : ℕ) → pair_cmp (h, m) (h, n) ≡ nat_cmp m n
+by_number h m n = ap (λ r. ordering_then r (nat_cmp m n)) (tied_itself hash_total h)
 
--- (h, 0) is not above (h, end)
-pub row_is_forward : (h : List ℕ) (end : ℕ) → is_gt (pair_cmp (h, 0) (h, end)) ≡ false
-row_is_forward h end = ap (λ r. is_gt (ordering_then r (nat_cmp 0 end))) (tied_itself hash_total h) ∙ zero_first end
+less_number : (m n : ℕ) → m < n → nat_cmp m n ≡ Less
+less_number m n l = search (rules, l)
 
-in_row : (h : List ℕ) (end : ℕ) (q : Pair) → is_gt (pair_cmp (h, 0) q) ≡ false → pair_cmp q (h, end) ≡ Less → (q.0 ≡ h) × (q.1 < end)
-in_row h end q from upto =
-    elim (hash_cmp q.0 h) as (λ r. hash_cmp q.0 h ≡ r → ordering_then r (nat_cmp q.1 end) ≡ Less → (q.0 ≡ h) × (q.1 < end)) [
-      | Less ↦ λ p u. (let turned : hash_cmp h q.0 ≡ Greater = hash_total.antisymm h q.0 ∙ ap ordering_reverse p in
-          let above : is_gt (ordering_then Greater (nat_cmp 0 q.1)) ≡ false = subst (λ r. is_gt (ordering_then r (nat_cmp 0 q.1)) ≡ false) turned from in
-          let no : ⊥ = cc in absurd no)
-      | Equal ↦ λ p u. (hash_exact q.0 h p, ranked q.1 end Less (sym u))
-      | Greater ↦ λ p u. (let no : ⊥ = cc in absurd no)
-    ] refl upto
+below_pair : (h : List ℕ) (m n : ℕ) → m < n → pair_cmp (h, m) (h, n) ≡ Less
+below_pair h m n l = by_number h m n ∙ less_number m n l
 
-row_in : (h : List ℕ) (n end : ℕ) → n < end → (is_gt (pair_cmp (h, 0) (h, n)) ≡ false) × (pair_cmp (h, n) (h, end) ≡ Less)
-row_in h n end l = (row_is_forward h n, ap (λ r. ordering_then r (nat_cmp n end)) (tied_itself hash_total h) ∙ below n end l)
-  where
-    below : (a b : ℕ) → a < b → nat_cmp a b ≡ Less
-    below a b l = search (rules, l)
+-- a pair from one of a hash on and below another of it is of that hash
+within_hash : (h : List ℕ) (n end : ℕ) (q : Pair) → is_lt (pair_cmp q (h, n)) ≡ false → pair_cmp q (h, end) ≡ Less → q.0 ≡ h
+within_hash h n end q from upto =
+    elim (hash_cmp q.0 h) as (λ r. hash_cmp q.0 h ≡ r → is_lt (ordering_then r (nat_cmp q.1 n)) ≡ false → ordering_then r (nat_cmp q.1 end) ≡ Less → q.0 ≡ h) [
+      | Less ↦ λ p f u. (let no : ⊥ = cc in absurd no)
+      | Equal ↦ λ p f u. hash_exact q.0 h p
+      | Greater ↦ λ p f u. (let no : ⊥ = cc in absurd no)
+    ] refl from upto
 
 module _ {V : Type 0} (es : List (Pair × V)) (m : FinMap pair_cmp V) (is : from_entries {R = pair_cmp} es ≡ m) (h : List ℕ) (end : ℕ) where
   look : Pair → Option V
   look q = lookup (is_at (pair_cmp q)) es
 
+  -- no entry below the end is above this one
+  abbrev IsGreatest : Pair → Type 0
+  IsGreatest key = (q : Pair) → ⊤ × (pair_cmp q (h, end) ≡ Less) → IsSome (lookup (is_at (pair_cmp q)) es) → is_lt (pair_cmp key q) ≡ false
+
   found_at : (q : Pair) → get m q ≡ look q
   unfolding look
   found_at q = ap (λ (m : FinMap pair_cmp V). get m q) (sym is) ∙ get_is pair_cmp pair_total pair_exact es q
 
-  pub last_none : ((q : Pair) → (is_gt (pair_cmp (h, 0) q) ≡ false) × (pair_cmp q (h, end) ≡ Less) → lookup (is_at (pair_cmp q)) es ≡ None) → IsLastBelow m h end None
+  pub last_none : ((q : Pair) → ⊤ × (pair_cmp q (h, end) ≡ Less) → lookup (is_at (pair_cmp q)) es ≡ None) → IsLastBelow m h end None
   unfolding look
-  last_none none n from upto = found_at (h, n) ∙ none (h, n) (row_in h n end upto)
+  last_none none n from upto = found_at (h, n) ∙ none (h, n) (tt, below_pair h n end upto)
 
-  pub last_some : (key : Pair) (v : V) → (is_gt (pair_cmp (h, 0) key) ≡ false) × (pair_cmp key (h, end) ≡ Less) → lookup (is_at (pair_cmp key)) es ≡ Some v
-      → ((q : Pair) → (is_gt (pair_cmp (h, 0) q) ≡ false) × (pair_cmp q (h, end) ≡ Less) → IsSome (lookup (is_at (pair_cmp q)) es) → is_lt (pair_cmp key q) ≡ false)
-      → IsLastBelow m h end (Some (key.1, v))
+  -- what lies above the greatest entry isn't there
+  none_above : (key : Pair) (n : ℕ) → n < end → IsGreatest key → (is_lt (pair_cmp key (h, n)) ≡ false → ⊥) → get m (h, n) ≡ None
   unfolding look
-  last_some key v inside here greatest =
-      let row : (key.0 ≡ h) × (key.1 < end) = in_row h end key inside.0 inside.1 in
-      let at : get m (h, key.1) ≡ Some v = ap (λ g. get m (g, key.1)) (sym row.0) ∙ found_at key ∙ here in (
-        row.1,
-        at,
-        λ n from upto.
-            (let by : (o : Option V) → look (h, n) ≡ o → o ≡ None = λ o. elim o as (λ o. look (h, n) ≡ o → o ≡ None) [
-              | None ↦ λ e. refl
-              | Some w ↦ λ e. (let not_below : is_lt (pair_cmp key (h, n)) ≡ false = greatest (h, n) (row_in h n end upto) (subst IsSome (sym e) refl) in
-                  let below : pair_cmp key (h, n) ≡ Less = ap (λ g. pair_cmp (g, key.1) (h, n)) row.0 ∙ (row_in h key.1 n (omega (arith, from))).1 in
-                  let turned : is_lt Less ≡ false = subst (λ r. is_lt r ≡ false) below not_below in
-                  let no : ⊥ = cc in absurd no)
-            ] in
-            found_at (h, n) ∙ by (look (h, n)) refl),
-      )
+  none_above key n upto greatest above = found_at (h, n) ∙ by (look (h, n)) refl
+    where
+      by : (o : Option V) → look (h, n) ≡ o → look (h, n) ≡ None
+      by None e = e
+      by (Some v) e = absurd (above (greatest (h, n) (tt, below_pair h n end upto) (subst IsSome (sym e) refl)))
+
+  pub last_other : (key : Pair) → pair_cmp key (h, end) ≡ Less → IsGreatest key → (key.0 ≡ h → ⊥) → IsLastBelow m h end None
+  last_other key upto greatest other n from below = none_above key n below greatest (λ at_least. other (within_hash h n end key at_least upto))
+
+  pub last_some : (key : Pair) (v : V) → pair_cmp key (h, end) ≡ Less → lookup (is_at (pair_cmp key)) es ≡ Some v → IsGreatest key → key.0 ≡ h → IsLastBelow m h end (Some (key.1, v))
+  unfolding look
+  last_some key v upto here greatest same = (
+    ranked key.1 end Less (sym (sym (by_number h key.1 end) ∙ ap (λ g. pair_cmp (g, key.1) (h, end)) (sym same) ∙ upto)),
+    ap (λ g. get m (g, key.1)) (sym same) ∙ found_at key ∙ here,
+    λ n from below. none_above key n below greatest (λ at_least.
+        (let under : pair_cmp key (h, n) ≡ Less = ap (λ g. pair_cmp (g, key.1) (h, n)) same ∙ below_pair h key.1 n (omega (arith, from)) in
+        let turned : is_lt Less ≡ false = subst (λ r. is_lt r ≡ false) under at_least in
+        let no : ⊥ = cc in no)),
+  )

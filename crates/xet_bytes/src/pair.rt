@@ -60,8 +60,12 @@ impl<V: Copy + Drop> ByHashAndNumber<V> {
     pub fn last_below(&self, hash: &MerkleHash, end: u64) -> Option<(u64, V)>
         ensures { IsLastBelow self.now hash.now end result }
     {
-        let (key, value) = self.map.range((*hash, 0)..(*hash, end)).next_back()?;
-        Some((key.1, *value))
+        let (key, value) = self.map.range(..(*hash, end)).next_back()?;
+        if key.0 == *hash {
+            Some((key.1, *value))
+        } else {
+            None
+        }
     }
 }
 

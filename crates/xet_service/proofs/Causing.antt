@@ -2,7 +2,7 @@
 use Rattle.std.proofs.Common.{◌≡◌, ◌∙◌, ◌++◌, map, ℕ, inl, inr, true, false, Bool, cond, List, [], ◌∷◌, Option, Some, None, Result, Ok, Err, refl, sym, ap, subst, eqb}
 use Rattle.std.specs.Option.{is_some}
 use Rattle.std.specs.List.{AllByRecursion}
-use Rattle.xet_types.specs.Records.{FirstPlan}
+use Rattle.xet_types.specs.Records.{BatchPlan}
 use Rattle.std.proofs.lemmas.Bool.{eqb-true}
 use Rattle.xet_types.specs.declared.error.Refusal.{Refusal}
 use Rattle.xet_types.specs.declared.error.Refusal.TheVariants.{FormatError, InvalidRange, InvalidArguments, XORBNotFound, FileNotFound, Other}
@@ -24,8 +24,7 @@ use Rattle.xet_store.specs.Questions.{asked, data_agreed, data_asked, data_liste
 use Rattle.xet_store.specs.Plans.{PlansFile, PlansListed, PlansReached, PlansWithin, Serves}
 use Rattle.xet_service.specs.declared.step.Act.TheVariants.{UploadXorb, UploadShard, Plan, DeleteShard, SetMaxRanges, FileSize, FileData, CheckIntegrity, CheckReachable, CheckReadable, InsertRandomXorb, Batch, InsertLazyFile}
 use Rattle.xet_service.specs.declared.step.PlanVersion.{PlanVersion}
-use Rattle.xet_store.specs.Responses.{first_of as first_at, response_by, Responds}
-use Rattle.xet_store.specs.Batches.{FileAnswer, answered_file, whole_file, IsAnswered, RespondsToAll}
+use Rattle.xet_store.specs.Batches.{PlansModel, FileAnswer, answered_file, whole_file, IsAnswered, PlansAll, batch_by, RespondsToAll}
 use Rattle.xet_service.specs.declared.reply.Reply.{Reply}
 use Rattle.xet_service.specs.World.{State}
 use Rattle.xet_service.specs.Steps.{asks, batch_reply, BatchesBy}
@@ -205,21 +204,19 @@ module _ (s : State) (at : ℕ) (file : List ℕ) (range : Option (Range ℕ _F)
 pub batch_asked : (s : State) (at : ℕ) (files : List (List ℕ)) (result : Result Reply Refusal) (t : State) → (h : BatchesBy s files at result t) → asks batch_reply s h.replies.answer ≡ (result, t)
 batch_asked s at files result t h = λ j. (sym h.replies.reply j, sym h.same j)
 
-abbrev first_answer : Result (Option FirstPlan) Refusal → Result (Option FirstPlan) Refusal
-first_answer r = r
+abbrev batch_answer : Result BatchPlan Refusal → Result BatchPlan Refusal
+batch_answer r = r
 
 module _ (s : State) (at : ℕ) where
   -- the plan of a live file that isn't refused is without faults
-  served_faultless : (o : Option FirstPlan) (segments : List Segment) (r : Result (Option PlanModel) Refusal) → first_answer (Ok o) ≡ response_by (first_at at) r → PlansWithin (known_of s.store) segments None (interval 0 (size_of segments)) r
-      → first_fault (known_of s.store) (interval 0 (size_of segments)) segments ≡ None
-  served_faultless o segments (Ok (Some plan)) e h = h.faultless
-  served_faultless o segments (Ok None) e h = absurd h
-  served_faultless o segments (Err why) e h = absurd cc
+  served_faultless : (o : Option PlanModel) (segments : List Segment) → PlansWithin (known_of s.store) segments None (interval 0 (size_of segments)) (Ok o) → first_fault (known_of s.store) (interval 0 (size_of segments)) segments ≡ None
+  served_faultless (Some plan) segments h = h.faultless
+  served_faultless None segments h = absurd h
 
-  answered_faultless : (a : FileAnswer) → IsAnswered s.store at a → HasNoFault s.store a.0
-  answered_faultless a h segments live = served_faultless a.1 segments h.answer h.response (subst (λ (o : Option (List Segment)). PlansListed (known_of s.store) whole_file o h.answer) live h.plans)
+  answered_faultless : (a : FileAnswer) → IsAnswered s.store a → HasNoFault s.store a.0
+  answered_faultless a h segments live = served_faultless a.1 segments (subst (λ (o : Option (List Segment)). PlansListed (known_of s.store) whole_file o (Ok a.1)) live h.plans)
 
-  all_faultless : (answers : List FileAnswer) → AllByRecursion (IsAnswered s.store at) answers → AllByRecursion (HasNoFault s.store) (map answered_file answers)
+  all_faultless : (answers : List FileAnswer) → AllByRecursion (IsAnswered s.store) answers → AllByRecursion (HasNoFault s.store) (map answered_file answers)
   all_faultless [] h = tt
   all_faultless (a ∷ answers) h = (answered_faultless a h.0, all_faultless answers h.1)
 
@@ -236,12 +233,14 @@ module _ (s : State) (at : ℕ) where
     planned_refused None why live h = absurd (let e : ◌≡◌ {A = Result (Option PlanModel) Refusal} (Err why) (Ok None) = h in cc)
     planned_refused (Some segments) why live h = within_refused segments why live h
 
-    answer_refused : (why : Refusal) (r : Result (Option PlanModel) Refusal) → first_answer (Err why) ≡ response_by (first_at at) r → PlansFile s.store file whole_file r → BatchCause why
-    answer_refused why (Ok (Some plan)) e h = absurd cc
-    answer_refused why (Ok None) e h = absurd cc
-    answer_refused why (Err other) e h = let same : other ≡ why = cc in subst BatchCause same (planned_refused (listing s.store file) other refl h)
+  all_refused : (files : List (List ℕ)) (why : Refusal) → PlansAll s.store files (Err why) → HasCause s at (Batch files) why
+  all_refused files why h =
+      subst (λ (fs : List (List ℕ)). HasCause s at (Batch fs) why) (sym h.of_files)
+      (planned_refused (map answered_file h.answers) h.file h.after (all_faultless h.answers h.each) (listing s.store h.file) why refl h.refused.plans)
+
+  answer_refused : (files : List (List ℕ)) (why : Refusal) (r : Result PlansModel Refusal) → batch_answer (Err why) ≡ batch_by at r → PlansAll s.store files r → HasCause s at (Batch files) why
+  answer_refused files why (Ok plans) e h = absurd cc
+  answer_refused files why (Err other) e h = let same : other ≡ why = cc in subst (λ (w : Refusal). HasCause s at (Batch files) w) same (all_refused files other h)
 
   pub batch_refused : (files : List (List ℕ)) (why : Refusal) → RespondsToAll s.store files at (Err why) → HasCause s at (Batch files) why
-  batch_refused files why h =
-      subst (λ (fs : List (List ℕ)). HasCause s at (Batch fs) why) (sym h.of_files)
-      (answer_refused (map answered_file h.answers) h.file h.after (all_faultless h.answers h.each) why h.refused.answer h.refused.response h.refused.plans)
+  batch_refused files why h = answer_refused files why h.answer h.response h.plans

@@ -9,7 +9,7 @@ use Rattle.xet_types.specs.declared.range.Range.{Range}
 use Rattle.xet_types.specs.declared.range._F.{_F}
 use Rattle.xet_types.specs.declared.record.XorbRangeDescriptor.{XorbRangeDescriptor}
 use Rattle.xet_types.specs.Ranges.{file_range_of}
-use Rattle.xet_types.specs.Records.{SecondPlan, FirstPlan, BatchPlan}
+use Rattle.xet_types.specs.Records.{SecondPlan, BatchPlan}
 use Rattle.xet_xorb.specs.Lengths.{serialized_length}
 use Rattle.xet_xorb.specs.ChunkLists.{lengths_of}
 use Rattle.xet_xorb.specs.Generated.{seeded_chunks}
@@ -40,9 +40,9 @@ use Rattle.xet_store.specs.TermData.{is_expired}
 use Rattle.xet_store.specs.Questions.{file_size, file_data, dedup_answer, xorb_hashes}
 use Rattle.xet_store.specs.Lists.{shard_hashes, file_entries}
 use Rattle.xet_store.specs.Checks.{checked, integrity, reachable, readable}
-use Rattle.xet_store.specs.Plans.{Serves, PlansListed, PlansReached, PlansWithin}
-use Rattle.xet_store.specs.Responses.{response_by, RespondsBy, first_of, Responds}
-use Rattle.xet_store.specs.Batches.{FileAnswer, answered_file, whole_file, IsAnswered, plans_in, batch_of, RespondsToAll}
+use Rattle.xet_store.specs.Plans.{Serves, PlansFile, PlansSoundly, PlansListed, PlansReached, PlansWithin}
+use Rattle.xet_store.specs.Responses.{response_by, RespondsBy}
+use Rattle.xet_store.specs.Batches.{PlansModel, FileAnswer, answered_file, whole_file, IsAnswered, plans_in, plans_of, PlansAll, batch_by, RespondsToAll}
 use Rattle.xet_service.specs.declared.step.Act.{Act}
 use Rattle.xet_service.specs.declared.step.Act.TheVariants.{UploadXorb, UploadShard, Plan, Fetch, Abandon, HideFile, DeleteShard, DeleteXorb, SetExpiration, SetMaxRanges, FileSize, FileData, SetDedupExpiration, DedupQuery, RemoveDedup, ListXorbs, ListShards, ListFiles, CheckIntegrity, CheckReachable, CheckReadable, InsertRandomXorb, Batch, InsertLazyFile}
 use Rattle.xet_service.specs.declared.step.PlanVersion.{PlanVersion}
@@ -213,21 +213,21 @@ plans_same s t u version file range at r q h g =
 
 -- ---- plans of several files
 
-abbrev ok_plan : Option FirstPlan → Result (Option FirstPlan) Refusal
+abbrev ok_plan : Option PlanModel → Result (Option PlanModel) Refusal
 ok_plan o = Ok o
 
-abbrev err_plan : Refusal → Result (Option FirstPlan) Refusal
+abbrev err_plan : Refusal → Result (Option PlanModel) Refusal
 err_plan why = Err why
 
-abbrev ok_batch : BatchPlan → Result BatchPlan Refusal
-ok_batch b = Ok b
+abbrev ok_plans : PlansModel → Result PlansModel Refusal
+ok_plans p = Ok p
 
-module _ (m : StoreModel) (at : ℕ) where
+module _ (m : StoreModel) where
   abbrev AllAnswered : List FileAnswer → Type 0
-  AllAnswered answers = AllByRecursion (IsAnswered m at) answers
+  AllAnswered answers = AllByRecursion (IsAnswered m) answers
 
-  first_same : (f g : List ℕ) (a b : Result (Option FirstPlan) Refusal) → f ≡ g → Responds m f whole_file at a → Responds m g whole_file at b → a ≡ b
-  first_same f g a b e h k = responds_same (first_of at) m g whole_file a b (subst (λ (file : List ℕ). Responds m file whole_file at a) e h) k
+  first_same : (f g : List ℕ) (a b : Result (Option PlanModel) Refusal) → f ≡ g → PlansSoundly m f whole_file a → PlansSoundly m g whole_file b → a ≡ b
+  first_same f g a b e h k = listed_same (known_of m) whole_file (listing m g) a b (subst (λ (file : List ℕ). PlansFile m file whole_file a) e h.plans) k.plans
 
   answers_same : (xs ys : List FileAnswer) → map answered_file xs ≡ map answered_file ys → AllAnswered xs → AllAnswered ys → xs ≡ ys
   answers_same [] [] e h k = refl
@@ -243,7 +243,7 @@ module _ (m : StoreModel) (at : ℕ) where
 
   -- the first that is refused is one
   one_refused : (xs ys : List FileAnswer) (f g : List ℕ) (more rest : List (List ℕ)) (v w : Refusal) → map answered_file xs ++ f ∷ more ≡ map answered_file ys ++ g ∷ rest → AllAnswered xs → AllAnswered ys
-      → Responds m f whole_file at (Err v) → Responds m g whole_file at (Err w) → v ≡ w
+      → PlansSoundly m f whole_file (Err v) → PlansSoundly m g whole_file (Err w) → v ≡ w
   one_refused [] [] f g more rest v w e h k p q =
       let head : f ≡ g = cc in
       let both : err_plan v ≡ err_plan w = first_same f g (err_plan v) (err_plan w) head p q in
@@ -259,7 +259,7 @@ module _ (m : StoreModel) (at : ℕ) where
       one_refused xs ys f g more rest v w tail h.1 k.1 p q
 
   -- where all are answered none is refused
-  none_refused : (xs ys : List FileAnswer) (g : List ℕ) (rest : List (List ℕ)) (w : Refusal) → map answered_file xs ≡ map answered_file ys ++ g ∷ rest → AllAnswered xs → AllAnswered ys → Responds m g whole_file at (Err w) → ⊥
+  none_refused : (xs ys : List FileAnswer) (g : List ℕ) (rest : List (List ℕ)) (w : Refusal) → map answered_file xs ≡ map answered_file ys ++ g ∷ rest → AllAnswered xs → AllAnswered ys → PlansSoundly m g whole_file (Err w) → ⊥
   none_refused [] [] g rest w e h k q = absurd cc
   none_refused [] (b ∷ ys) g rest w e h k q = absurd cc
   none_refused (a ∷ xs) [] g rest w e h k q =
@@ -269,15 +269,18 @@ module _ (m : StoreModel) (at : ℕ) where
       let tail : map answered_file xs ≡ map answered_file ys ++ g ∷ rest = cc in
       none_refused xs ys g rest w tail h.1 k.1 q
 
-  all_same : (files : List (List ℕ)) (a b : Result BatchPlan Refusal) → RespondsToAll m files at a → RespondsToAll m files at b → a ≡ b
-  all_same files (Ok x) (Ok y) h k = ap ok_batch (h.is ∙ ap (λ (xs : List FileAnswer). batch_of (plans_in xs)) (answers_same h.answers k.answers (sym h.of_files ∙ k.of_files) h.each k.each) ∙ sym k.is)
+  all_same : (files : List (List ℕ)) (a b : Result PlansModel Refusal) → PlansAll m files a → PlansAll m files b → a ≡ b
+  all_same files (Ok x) (Ok y) h k = ap ok_plans (h.are ∙ ap (λ (xs : List FileAnswer). plans_of (plans_in xs)) (answers_same h.answers k.answers (sym h.of_files ∙ k.of_files) h.each k.each) ∙ sym k.are)
   all_same files (Ok x) (Err w) h k = absurd (none_refused h.answers k.answers k.file k.after w (sym h.of_files ∙ k.of_files) h.each k.each k.refused)
   all_same files (Err v) (Ok y) h k = absurd (none_refused k.answers h.answers h.file h.after v (sym k.of_files ∙ h.of_files) k.each h.each h.refused)
   all_same files (Err v) (Err w) h k = ap Err (one_refused h.answers k.answers h.file k.file h.after k.after v w (sym h.of_files ∙ k.of_files) h.each k.each h.refused k.refused)
 
+batch_same : (m : StoreModel) (files : List (List ℕ)) (at : ℕ) (a b : Result BatchPlan Refusal) → RespondsToAll m files at a → RespondsToAll m files at b → a ≡ b
+batch_same m files at a b h k = h.response ∙ ap (batch_by at) (all_same m files h.answer k.answer h.plans k.plans) ∙ sym k.response
+
 batches_same : (s t u : State) (files : List (List ℕ)) (at : ℕ) (r q : Result Reply Refusal) → BatchesBy s files at r t → BatchesBy s files at q u → Same r q t u
 batches_same s t u files at r q h k =
-    (h.replies.reply ∙ ap (map_ok batch_reply) (all_same s.store at files h.replies.answer k.replies.answer h.replies.responds k.replies.responds) ∙ sym k.replies.reply, h.same ∙ sym k.same)
+    (h.replies.reply ∙ ap (map_ok batch_reply) (batch_same s.store files at h.replies.answer k.replies.answer h.replies.responds k.replies.responds) ∙ sym k.replies.reply, h.same ∙ sym k.same)
 
 -- ---- fetches
 

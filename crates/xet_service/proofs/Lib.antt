@@ -13,6 +13,7 @@ pub mod MetSome
 pub mod RunOrder
 pub mod RunChunks
 pub mod Planned
+pub mod Batched
 pub mod Causing
 pub mod Left
 pub mod Stepping

@@ -1,11 +1,9 @@
-//! The links of plans, and the files of several.
+//! The links of plans.
 ghost use Rattle.std.specs.Prelude.{◌≡◌, ◌++◌, ◌<◌, map, IfOk, OnOk};
 ghost use Rattle.std.specs.List.{flat_map};
-ghost use Rattle.xet_types.specs.RecordMaps.{listed};
 ghost use Rattle.xet_plan.specs.Groups.{in_groups};
 ghost use Rattle.xet_plan.specs.Merging.{ranges_shown};
 ghost use Rattle.xet_store.specs.Responses.{descriptor_of};
-ghost use Rattle.xet_service.specs.Links.{entry_link, entry_links};
 ghost use Rattle.xet_service.specs.RunLinks.{most_runs, run_link, group_link, runs_links};
 
 use crate::reply::PlannedLink;
@@ -15,10 +13,7 @@ use std::alloc::Global;
 use std::collections::BTreeMap;
 use xet_plan::MergedRange;
 use xet_store::descriptor;
-use xet_types::{
-    HexMerkleHash, Items, MerkleHash, Octets, OutOfMemory, XorbRangeDescriptor,
-    XorbReconstructionFetchInfo, XorbReconstructionTerm,
-};
+use xet_types::{HexMerkleHash, Items, MerkleHash, Octets, OutOfMemory, XorbRangeDescriptor};
 use xet_wire::generate_v2_fetch_url;
 
 /// How many links the xorbs have together, up to the type's end.
@@ -177,68 +172,4 @@ pub fn links_of(
         push_links(alloc, &mut links, version, hash, runs, max, at)?;
     }
     Ok(links)
-}
-
-/// The link of an entry of a plan of version 1: one range. Its text isn't copied.
-fn entry_link(
-    alloc: Global,
-    hash: &MerkleHash,
-    entry: XorbReconstructionFetchInfo,
-) -> Result<PlannedLink, OutOfMemory>
-    ensures { IfOk result (λ link. link ≡ entry_link hash.now entry) }
-{
-    let mut ranges = Vec::with_capacity(alloc, 1)?;
-    ranges.push(XorbRangeDescriptor {
-        chunks: entry.range,
-        bytes: entry.url_range,
-    })?;
-    Ok(PlannedLink {
-        hash: *hash,
-        url: LinkText::from_text(Octets::from_vec(entry.url.into_bytes())?),
-        ranges: Items::from_vec(ranges),
-    })
-}
-
-/// Adds the links of a xorb's entries.
-fn push_entries(
-    alloc: Global,
-    links: &mut Vec<PlannedLink>,
-    hash: &MerkleHash,
-    entries: Vec<XorbReconstructionFetchInfo>,
-) -> Result<(), OutOfMemory>
-    ensures { OnOk result (links.new.items ≡ links.old.items ++ map (entry_link hash.now) entries.items) }
-{
-    for entry in entries {
-        let link = entry_link(alloc, hash, entry)?;
-        links.push(link)?;
-    }
-    Ok(())
-}
-
-/// The links of the entries of all xorbs, in order of xorb.
-pub(crate) fn links_of_entries(
-    alloc: Global,
-    fetch_info: BTreeMap<HexMerkleHash, Vec<XorbReconstructionFetchInfo>>,
-) -> Result<Vec<PlannedLink>, OutOfMemory>
-    ensures { IfOk result (λ links. links.items ≡ flat_map entry_links (map listed fetch_info.entries)) }
-{
-    let mut links = Vec::with_capacity(alloc, count_links(&fetch_info))?;
-    for (hash, entries) in fetch_info {
-        push_entries(alloc, &mut links, &hash.0, entries)?;
-    }
-    Ok(links)
-}
-
-/// Files with their terms, in order of hash.
-pub(crate) fn terms_of_files(
-    alloc: Global,
-    files: BTreeMap<HexMerkleHash, Vec<XorbReconstructionTerm>>,
-) -> Result<Vec<(MerkleHash, Items<XorbReconstructionTerm>)>, OutOfMemory>
-    ensures { IfOk result (λ terms. terms.items ≡ map listed files.entries) }
-{
-    let mut terms = Vec::with_capacity(alloc, files.len())?;
-    for (hash, of_file) in files {
-        terms.push((hash.0, Items::from_vec(of_file)))?;
-    }
-    Ok(terms)
 }

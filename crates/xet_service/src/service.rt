@@ -8,6 +8,7 @@ ghost use Rattle.xet_store.specs.Commands.{UploadsXorb, UploadsShard, InsertsSee
 ghost use Rattle.xet_store.specs.Told.{Asks, Follows, Leaves};
 ghost use Rattle.xet_store.specs.TermData.{is_expired};
 ghost use Rattle.xet_store.specs.Answered.{Answered};
+ghost use Rattle.xet_store.specs.Batches.{batch_at};
 ghost use Rattle.xet_store.specs.Refusals.{RefusedBy, OfPlan, OfXorbBytes, OfXorbUpload, OfShardUpload, OfGenerated};
 ghost use Rattle.xet_service.specs.declared.reply.Reply.TheVariants.{Uploaded, ShardTaken, Size, Data, Random};
 ghost use Rattle.xet_service.specs.declared.step.Act.TheVariants.{Fetch};
@@ -19,7 +20,7 @@ ghost use Rattle.xet_service.specs.Links.{answer_of};
 ghost use Rattle.xet_service.specs.Requests.{OfAct, OfPlanAct, OfFetch, OfLink, IsAnswer, IsOpenAt, IsWantedAt, IsLinkLeftAt, PutsAt, KeepsReads, TakesAt};
 
 use crate::body::{TermBody, fetch_term_body};
-use crate::links::{links_of, links_of_entries, terms_of_files};
+use crate::links::links_of;
 use crate::pieces::Pieces;
 use crate::read::OpenRead;
 use crate::reader::Reader;
@@ -30,10 +31,9 @@ use std::alloc::Global;
 use xet_bytes::ByNumber;
 use xet_generated::RandomFileContents;
 use xet_plan::Plan;
-use xet_store::Store;
+use xet_store::{FilePlans, Store};
 use xet_types::{
-    BatchQueryReconstructionResponse, ClientError, FileRange, Items, MerkleHash, Octets,
-    OutOfMemory, XorbRangeDescriptor,
+    ClientError, FileRange, Items, MerkleHash, Octets, OutOfMemory, XorbRangeDescriptor,
 };
 use xet_xorb::{RandomXorb, SerializedXorbObject};
 
@@ -228,15 +228,14 @@ fn upload_shard<K: Store>(
     store.upload_shard(alloc, content)
 }
 
-/// Plans that were taken together, as a reply.
-fn batch_reply(alloc: Global, batch: BatchQueryReconstructionResponse) -> Result<Reply, OutOfMemory>
-    ensures reply { IfOk result (λ reply. reply ≡ batch_reply batch) }
+/// Plans that were taken together, as a reply, with links of version 1 that have the moment in milliseconds.
+fn batch_reply(alloc: Global, plans: FilePlans, at: u64) -> Result<Reply, OutOfMemory>
+    ensures reply { IfOk result (λ reply. reply ≡ batch_reply (batch_at at plans)) }
     ensures answers { IfOk result IsAnswer }
 {
-    let files = terms_of_files(alloc, batch.files)?;
-    let links = links_of_entries(alloc, batch.fetch_info)?;
+    let links = links_of(alloc, PlanVersion::V1, &plans.merged, 1, at)?;
     Ok(Reply::Batch {
-        files: Items::from_vec(files),
+        files: Items::from_vec(plans.files),
         links: Items::from_vec(links),
     })
 }
@@ -254,8 +253,8 @@ fn ask_batch<K: Store>(
     ensures stays { K.Client.told store.new ≡ K.Client.told store.old }
     ensures cause { FailsOnlyByFault (K.Client.faults store.old) (K.Client.faults store.new) result }
 {
-    let batch = store.batch_get_reconstruction(alloc, files, at)?;
-    let reply = batch_reply(alloc, batch)?;
+    let plans = store.plan_files(alloc, files)?;
+    let reply = batch_reply(alloc, plans, at)?;
     Ok(reply)
 }
 

@@ -59,7 +59,7 @@ module _ {X : Type 0} (f : List ℕ → List X) where
 -- ---- lists under hashes
 
 module _ {X : Type 0} where
-  joined_sorted : (es : List (Listed X)) → T (is_sorted hash_cmp (joined_by_hash es))
+  pub joined_sorted : (es : List (Listed X)) → T (is_sorted hash_cmp (joined_by_hash es))
   joined_sorted es = subst T (sym (order_over (joined_at es) (entries (set_of (hashes_of es))))) (entries_sorted (set_of (hashes_of es)))
 
   where_some : (o : Option Unit0) (xs : List X) → option_map (λ (u : Unit0). xs) o ≡ cond (is_some o) (Some xs) None

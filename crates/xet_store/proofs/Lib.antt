@@ -20,5 +20,6 @@ pub mod ServingLaws
 mod Undoing
 mod GeneratedFiles
 pub mod Joining
+pub mod Alone
 pub mod Batching
 mod Uploading

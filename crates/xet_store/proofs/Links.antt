@@ -11,7 +11,7 @@ use Rattle.xet_types.specs.declared.key.HexMerkleHash.{HexMerkleHash}
 use Rattle.xet_bytes.proofs.Maps.{hash_total}
 use Rattle.xet_plan.specs.declared.runs.MergedRange.{MergedRange}
 use Rattle.xet_plan.specs.Runs.{Group, Before, Rising}
-use Rattle.xet_plan.specs.Merging.{group_of, ranges_shown}
+use Rattle.xet_plan.specs.Merging.{Ranges, group_of, ranges_shown}
 use Rattle.xet_store.specs.Responses.{fetches_at, ranges_fetches}
 
 abbrev pub Merged : Type 0
@@ -30,6 +30,10 @@ groups_at max at g = ranges_fetches max at (ranges_shown g)
 
 abbrev pub groups : List Merged → List Group
 groups merged = map (λ g. group_of (ranges_shown g)) merged
+
+pub shown_twice : {X : Type 0} (f : Ranges → X) (gs : List Merged) → map (λ g. f (ranges_shown g)) gs ≡ map f (map ranges_shown gs)
+shown_twice f [] = refl
+shown_twice {X} f (g ∷ gs) = ap (λ (xs : List X). f (ranges_shown g) ∷ xs) (shown_twice f gs)
 
 -- each entry is below each of the rest
 abbrev pub Apart : {X : Type 0} → List (LinkEntry X) → List Merged → Type 0

@@ -4,13 +4,16 @@ use Rattle.std.specs.List.{AllByRecursion, fold, flat_map}
 use Rattle.std.specs.FinMap.{from_entries, entries, keys}
 use Rattle.std.specs.FinMap.Entries.{find, put}
 use Rattle.xet_types.specs.Names.{hash_cmp, same_hash}
-use Rattle.xet_types.specs.Records.{FetchInfo, FirstPlan, BatchPlan}
+use Rattle.xet_types.specs.Records.{BatchPlan}
 use Rattle.xet_types.specs.declared.error.Refusal.{Refusal}
 use Rattle.xet_types.specs.declared.range.Range.{Range}
 use Rattle.xet_types.specs.declared.range._F.{_F}
 use Rattle.xet_types.specs.declared.record.XorbReconstructionTerm.{XorbReconstructionTerm}
+use Rattle.xet_plan.specs.declared.runs.MergedRange.{MergedRange}
+use Rattle.xet_plan.specs.Plans.{PlanModel}
 use Rattle.xet_store.specs.StoreModel.{StoreModel}
-use Rattle.xet_store.specs.Responses.{Responds}
+use Rattle.xet_store.specs.Plans.{PlansSoundly}
+use Rattle.xet_store.specs.Responses.{fetches_at}
 use Rattle.xet_store.specs.Lists.{set_of}
 
 -- ---- lists under hashes
@@ -36,9 +39,9 @@ joined_by_hash es = map (λ h. (h, joined_at es h)) (keys (set_of (hashes_of es)
 
 -- ---- plans
 
--- a live file and its plan of version 1
+-- a live file and its plan
 abbrev pub FilePlan : Type 0
-FilePlan = List ℕ × FirstPlan
+FilePlan = List ℕ × PlanModel
 
 abbrev pub file_terms : FilePlan → Listed XorbReconstructionTerm
 file_terms p = (p.0, p.1.terms)
@@ -47,18 +50,23 @@ file_terms p = (p.0, p.1.terms)
 abbrev pub terms_by_file : List FilePlan → List (Listed XorbReconstructionTerm)
 terms_by_file plans = entries (from_entries {R = hash_cmp} (reverse (map file_terms plans)))
 
-abbrev pub fetches_in : FilePlan → List (Listed FetchInfo)
-fetches_in p = p.1.fetch_info
+abbrev pub runs_in : FilePlan → List (Listed MergedRange)
+runs_in p = p.1.merged
 
--- each file's terms; and what to fetch of each xorb: the entries of all plans, one plan behind the other
-abbrev pub batch_of : List FilePlan → BatchPlan
-batch_of plans = record { files = terms_by_file plans; fetch_info = joined_by_hash (flat_map fetches_in plans) }
+-- the terms of several files, and the ranges to fetch, by xorb, for all of them, both in order of hash
+pub record PlansModel : Type 0 where
+  pub files : List (Listed XorbReconstructionTerm)
+  pub merged : List (Listed MergedRange)
+
+-- each file's terms; and the ranges of each xorb in all plans, one plan behind the other
+abbrev pub plans_of : List FilePlan → PlansModel
+plans_of plans = record { files = terms_by_file plans; merged = joined_by_hash (flat_map runs_in plans) }
 
 -- ---- what a store answers
 
 -- a file and its plan, or none where it isn't live
 abbrev pub FileAnswer : Type 0
-FileAnswer = List ℕ × Option FirstPlan
+FileAnswer = List ℕ × Option PlanModel
 
 abbrev pub answered_file : FileAnswer → List ℕ
 answered_file a = a.0
@@ -66,11 +74,11 @@ answered_file a = a.0
 abbrev pub whole_file : Option (Range ℕ _F)
 whole_file = None
 
--- the plan of version 1 of the whole file is this, at this moment
-abbrev pub IsAnswered : StoreModel → ℕ → FileAnswer → Type 0
-IsAnswered m at a = Responds m a.0 whole_file at (Ok a.1)
+-- the plan of the whole file is this
+abbrev pub IsAnswered : StoreModel → FileAnswer → Type 0
+IsAnswered m a = PlansSoundly m a.0 whole_file (Ok a.1)
 
-abbrev pub plan_with : List ℕ → Option FirstPlan → List FilePlan
+abbrev pub plan_with : List ℕ → Option PlanModel → List FilePlan
 plan_with file None = []
 plan_with file (Some plan) = (file, plan) ∷ []
 
@@ -81,26 +89,42 @@ plan_in a = plan_with a.0 a.1
 abbrev pub plans_in : List FileAnswer → List FilePlan
 plans_in answers = flat_map plan_in answers
 
--- each of the files has its answer, and the plans of the live ones make the batch
-pub record IsBatch (m : StoreModel) (at : ℕ) (files : List (List ℕ)) (batch : BatchPlan) : Type 0 where
+-- each of the files has its answer, and these are the plans of the live ones, taken together
+pub record ArePlans (m : StoreModel) (files : List (List ℕ)) (plans : PlansModel) : Type 0 where
   pub answers : List FileAnswer
   pub of_files : files ≡ map answered_file answers
-  pub each : AllByRecursion (IsAnswered m at) answers
-  pub is : batch ≡ batch_of (plans_in answers)
+  pub each : AllByRecursion (IsAnswered m) answers
+  pub are : plans ≡ plans_of (plans_in answers)
 
 -- one of the files is refused its plan so, and none before it is refused
-pub record IsFirstRefused (m : StoreModel) (at : ℕ) (files : List (List ℕ)) (why : Refusal) : Type 0 where
+pub record IsFirstRefused (m : StoreModel) (files : List (List ℕ)) (why : Refusal) : Type 0 where
   pub answers : List FileAnswer
   pub file : List ℕ
   pub after : List (List ℕ)
   pub of_files : files ≡ map answered_file answers ++ file ∷ after
-  pub each : AllByRecursion (IsAnswered m at) answers
-  pub refused : Responds m file whole_file at (Err why)
+  pub each : AllByRecursion (IsAnswered m) answers
+  pub refused : PlansSoundly m file whole_file (Err why)
 
 -- The plans of the files in the asked order, taken together, or the first refusal of one.
-abbrev pub RespondsToAll : StoreModel → List (List ℕ) → ℕ → Result BatchPlan Refusal → Type 0
-RespondsToAll m files at (Ok batch) = IsBatch m at files batch
-RespondsToAll m files at (Err why) = IsFirstRefused m at files why
+abbrev pub PlansAll : StoreModel → List (List ℕ) → Result PlansModel Refusal → Type 0
+PlansAll m files (Ok plans) = ArePlans m files plans
+PlansAll m files (Err why) = IsFirstRefused m files why
+
+-- ---- with the texts of the links
+
+-- the plans with one link of version 1 for each range, at a moment
+abbrev pub batch_at : ℕ → PlansModel → BatchPlan
+batch_at at plans = record { files = plans.files; fetch_info = map (fetches_at at) plans.merged }
+
+abbrev pub batch_by : ℕ → Result PlansModel Refusal → Result BatchPlan Refusal
+batch_by at (Ok plans) = Ok (batch_at at plans)
+batch_by at (Err why) = Err why
+
+-- The answer is that of the files' plans, written so.
+pub record RespondsToAll (m : StoreModel) (files : List (List ℕ)) (at : ℕ) (result : Result BatchPlan Refusal) : Type 0 where
+  pub answer : Result PlansModel Refusal
+  pub plans : PlansAll m files answer
+  pub response : result ≡ batch_by at answer
 
 -- ---- one list more
 

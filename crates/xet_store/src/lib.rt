@@ -1,11 +1,11 @@
 //! The store: xorbs by hash, shards in order of acceptance, and plans of the files that they list.
 #![tactic(auto)]
 
-mod batch;
 pub mod client;
 pub mod deletion;
 pub mod direct_access;
 pub mod memory;
+pub mod plans;
 pub mod runs;
 pub mod store;
 pub mod upload;
@@ -14,6 +14,7 @@ pub use client::Client;
 pub use deletion::DeletionControlableClient;
 pub use direct_access::{DirectAccessClient, second_plans_are_regrouped};
 pub use memory::MemoryClient;
+pub use plans::FilePlans;
 pub use runs::descriptor;
 pub use store::Store;
 pub use upload::upload_random_file;

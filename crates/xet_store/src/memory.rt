@@ -20,6 +20,7 @@ ghost use Rattle.xet_store.specs.Refusals.{RefusedBy, OfPlan};
 ghost use Rattle.std.specs.List.{list_all};
 ghost use Rattle.xet_store.specs.Checks.{checked, all_readable, readable};
 
+mod batch;
 mod checks;
 mod data;
 mod entries;
@@ -31,11 +32,12 @@ mod shards;
 mod term;
 mod xorb;
 
-use crate::batch::batch;
 use crate::client::Client;
 use crate::deletion::DeletionControlableClient;
 use crate::direct_access::DirectAccessClient;
+use crate::plans::FilePlans;
 use crate::store::Store;
+use batch::{batch, plans_of_files};
 use bytes::Bytes;
 use checks::{are_readable, listed_files};
 use data::assemble;
@@ -776,6 +778,14 @@ impl Store for MemoryClient {
         range: Option<FileRange>,
     ) -> Result<Option<Plan>, ClientError> {
         self.plan(alloc, file, range)
+    }
+
+    fn plan_files(
+        &mut self,
+        alloc: Global,
+        files: &[MerkleHash],
+    ) -> Result<FilePlans, ClientError> {
+        plans_of_files(self, alloc, files)
     }
 
     fn insert_random_xorb(

@@ -10,10 +10,11 @@ ghost use Rattle.xet_store.specs.Commands.{Is, InsertsLazy, insert_xorb};
 ghost use Rattle.xet_store.specs.Acceptance.{AcceptsTerms};
 ghost use Rattle.xet_generated.specs.Contents.{lazy_contents};
 ghost use Rattle.xet_store.specs.Plans.{PlansSoundly};
-ghost use Rattle.xet_store.specs.Batches.{RespondsToAll};
+ghost use Rattle.xet_store.specs.Batches.{PlansAll, RespondsToAll};
 
 use crate::deletion::DeletionControlableClient;
 use crate::direct_access::DirectAccessClient;
+use crate::plans::FilePlans;
 use std::alloc::Global;
 use xet_generated::RandomFileContents;
 use xet_plan::{Footers, Plan};
@@ -59,6 +60,17 @@ pub trait Store: DirectAccessClient + DeletionControlableClient + Footers {
         ensures stays { Self.Client.told self.new ≡ Self.Client.told self.old }
         ensures cause { FailsOnlyByFault (Self.Client.faults self.old) (Self.Client.faults self.new) result };
 
+    /// The plans of whole files in the asked order, taken together, without links: the terms of each live file, and what to fetch of
+    /// each xorb, one plan behind the other. Files that aren't live are left out; a file that is asked twice has its terms once and
+    /// its ranges twice.
+    ///
+    /// Refused as the first of the plans that is refused.
+    fn plan_files(&mut self, alloc: Global, files: &[MerkleHash]) -> Result<FilePlans, ClientError>
+        ensures told { (m : StoreModel) → Self.Client.told self.old ≡ Some m → Asks (PlansAll m files.now) result }
+        ensures refusals { RefusedBy OfPlan result }
+        ensures stays { Self.Client.told self.new ≡ Self.Client.told self.old }
+        ensures cause { FailsOnlyByFault (Self.Client.faults self.old) (Self.Client.faults self.new) result };
+
     /// Stores a generated xorb, where none is stored under its name, and answers the name. No shard lists it.
     fn insert_random_xorb(
         &mut self,
@@ -87,11 +99,7 @@ pub trait Store: DirectAccessClient + DeletionControlableClient + Footers {
         ensures accepts { AcceptsTerms term_spec.now chunk_size (lazy_contents term_spec.now chunk_size) result }
         ensures cause { FailsOnlyByFault (Self.Client.faults self.old) (Self.Client.faults self.new) result };
 
-    /// The plans of version 1 of whole files in the asked order, taken together, at a moment in milliseconds: the terms of each live
-    /// file, and what to fetch of each xorb, one plan behind the other. Files that aren't live are left out; a file that is asked
-    /// twice has its terms once and its links twice.
-    ///
-    /// Refused as the first of the plans that is refused.
+    /// The same as plans of version 1, with a link for each range, whose texts have the moment in milliseconds.
     fn batch_get_reconstruction(
         &mut self,
         alloc: Global,

@@ -3,19 +3,20 @@ ghost use Rattle.std.specs.Prelude.{◌≡◌, ◌↔◌, ◌<◌, ℕ, Ok, IsOk
 ghost use Rattle.std.specs.List.{AllPass};
 ghost use Rattle.std.specs.String.{string_bytes};
 ghost use Rattle.hex.specs.Hex.{decode_sized, encode_lower, is_hex_digit};
-ghost use Rattle.xet_types.specs.Names.{Decodes, data_hash, name_of_hashes, file_name};
+ghost use Rattle.xet_types.specs.Names.{Decodes, data_hash, name_of_hashes, file_name, hash_cmp};
 
 use crate::error::OutOfMemory;
 use hex::FromHex;
 use sha2::{Digest, Sha256};
 use std::alloc::Global;
+use std::cmp::Ordering;
 use std::fmt;
 use std::marker::Model;
 
 /// The hash of a chunk, a xorb, a shard or a file: 32 bytes, which contracts see as the list of them.
 ///
 /// Hashes are ordered by their bytes, and print as 64 lower-case hexadecimal digits. The default is all zeros.
-#[derive(Clone, Copy, PartialEq, Eq, PartialOrd, Ord, Hash, Default)]
+#[derive(Clone, Copy, PartialEq, Eq, Hash, Default)]
 pub struct MerkleHash {
     bytes: [u8; 32],
 }
@@ -87,6 +88,51 @@ impl MerkleHash {
             Err(_) => Err(NotHex),
         }
     }
+}
+
+impl PartialOrd for MerkleHash {
+    ghost use Rattle.std.specs.Prelude.{Some};
+    ghost use Rattle.std.specs.Cmp.Lexicographic.{texts_po};
+
+    ghost partial_cmp = { λ a b. Some (hash_cmp a b) };
+
+    ghost laws = { texts_po };
+
+    fn partial_cmp(&self, other: &MerkleHash) -> Option<Ordering> {
+        Some(self.cmp(other))
+    }
+}
+
+impl Ord for MerkleHash {
+    ghost use Rattle.std.specs.Prelude.{refl};
+    ghost use Rattle.std.specs.Cmp.Lexicographic.{nat_list_cmp_total, texts_ties};
+
+    ghost cmp = { hash_cmp };
+
+    ghost total = { nat_list_cmp_total };
+
+    ghost matches_partial_cmp = { λ a b. refl };
+
+    ghost matches_eq = { texts_ties };
+
+    /// Most hashes differ in their first byte, which is compared where `cmp` is called.
+    #[inline(always)]
+    fn cmp(&self, other: &MerkleHash) -> Ordering {
+        let first = self.bytes[0].cmp(&other.bytes[0]);
+        if first.is_ne() {
+            first
+        } else {
+            cmp_all(&self.bytes, &other.bytes)
+        }
+    }
+}
+
+/// The order of all bytes.
+#[inline(never)]
+fn cmp_all(a: &[u8; 32], b: &[u8; 32]) -> Ordering
+    ensures { result ≡ hash_cmp a.now b.now }
+{
+    a.cmp(b)
 }
 
 impl fmt::Display for MerkleHash {

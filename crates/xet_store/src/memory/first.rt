@@ -49,7 +49,7 @@ fn fetch_infos(
 }
 
 /// The links of each xorb's runs.
-fn links(
+pub fn links(
     alloc: Global,
     merged: &[(MerkleHash, Vec<MergedRange>)],
     at: u64,

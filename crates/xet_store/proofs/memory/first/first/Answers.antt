@@ -1,16 +1,12 @@
-use Rattle.std.proofs.Common.{◌≡◌, ◌∙◌, List, [], ◌∷◌, map, ℕ, refl, sym, ap, subst}
+use Rattle.std.proofs.Common.{◌∙◌, List, map, ℕ, sym, ap, subst}
 use Rattle.xet_types.specs.Records.{FetchInfo, FirstPlan}
 use Rattle.xet_plan.specs.Plans.{PlanModel}
 use Rattle.xet_plan.specs.Runs.{Rising}
-use Rattle.xet_plan.specs.Merging.{Ranges, group_of, ranges_shown}
+use Rattle.xet_plan.specs.Merging.{group_of, ranges_shown}
 use Rattle.xet_plan.specs.Answers.{groups_of}
 use Rattle.xet_store.specs.Responses.{fetches_at, first_of}
-use Rattle.xet_store.proofs.Links.{Merged, groups}
+use Rattle.xet_store.proofs.Links.{groups, shown_twice}
 use Rattle.xet_store.proofs.memory.first.first.Goals as goal
-
-shown_twice : {X : Type 0} (f : Ranges → X) (gs : List Merged) → map (λ g. f (ranges_shown g)) gs ≡ map f (map ranges_shown gs)
-shown_twice f [] = refl
-shown_twice {X} f (g ∷ gs) = ap (λ (xs : List X). f (ranges_shown g) ∷ xs) (shown_twice f gs)
 
 pub links-requires : goal.links-requires
 links-requires c = record {
