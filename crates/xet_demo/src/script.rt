@@ -8,7 +8,7 @@ pub mod line;
 pub mod terms;
 pub mod word;
 
-use line::{Line, line_of};
+use line::add_step;
 use memchr::memchr;
 use std::alloc::{AllocError, AllocFailed, Global};
 use xet_service::Step;
@@ -63,10 +63,10 @@ fn add_line(
 ) -> Result<(), ScriptError>
     ensures { AddsStepsOf line.now number steps.old.items steps.new.items result }
 {
-    match line_of(alloc, line)? {
-        Line::Passed => Ok(()),
-        Line::Command(step) => Ok(steps.push(step)?),
-        Line::Bad => Err(ScriptError::BadLine(number)),
+    if add_step(alloc, line, steps)? {
+        Ok(())
+    } else {
+        Err(ScriptError::BadLine(number))
     }
 }
 
