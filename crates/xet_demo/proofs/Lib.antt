@@ -7,4 +7,5 @@ pub mod TermWords
 pub mod Making
 pub mod HexPairs
 pub mod HexBlocks
+pub mod HexLower
 pub mod Quiet
