@@ -8,4 +8,6 @@ pub mod Making
 pub mod HexPairs
 pub mod HexBlocks
 pub mod HexLower
+pub mod Places
+pub mod AsciiParts
 pub mod Quiet

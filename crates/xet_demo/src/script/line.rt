@@ -1,16 +1,18 @@
 //! What a line of a script means. Most functions here add the step of what they are given, if it has one, and answer whether it is
 //! inside the grammar.
-ghost use Rattle.std.specs.Prelude.{◌≡◌, ◌∷◌, IfOk, Some};
+ghost use Rattle.std.specs.Prelude.{◌≡◌, ◌+◌, ◌≤◌, ◌∷◌, IfOk, Some, length};
 ghost use Rattle.std.specs.Option.{option_copied, option_map};
 ghost use Rattle.std.specs.List.{list_all};
 ghost use Rattle.std.specs.Char.{is_ascii};
 ghost use Rattle.xet_demo.specs.Words.{parts_of, parts_after};
+ghost use lib.Lanes.{chunk};
 ghost use Rattle.xet_demo.specs.Lines.{Adds, line_with, act_of, dedup_word, short_word, one_word, two_words, words_from, words_line, xorb_act, shard_act, plan_act, fetch_act, abandon_act, hide_act, delete_shard_act, delete_xorb_act, expire_act, max_act, dedup_expire_act, dedup_act, size_act, data_act, ascii_line, line_of, check_word, no_words, drop_dedup_act, three_words, random_act, lazy_act, words_of, hashes_of, batch_act};
 
 use super::digits::hash;
 use super::terms::terms;
 use super::word::{cut, number, octets, range, small_number};
 use std::alloc::Global;
+use std::simd::prelude::*;
 use xet_service::{Act, PlanVersion, Step};
 use xet_types::{Items, MerkleHash, OutOfMemory};
 
@@ -506,8 +508,9 @@ fn ascii_line(alloc: Global, text: &[u8], steps: &mut Vec<Step>) -> Result<bool,
     command(alloc, text, steps)
 }
 
-/// Whether every byte is below 128.
-fn is_ascii_text(text: &[u8]) -> bool
+/// Whether every byte of a short text is below 128.
+#[inline(always)]
+fn is_ascii_word(text: &[u8]) -> bool
     ensures { result ≡ list_all is_ascii text.now }
 {
     let mut greatest = 0u8;
@@ -515,6 +518,34 @@ fn is_ascii_text(text: &[u8]) -> bool
         greatest = greatest.max(*byte);
     }
     greatest < 128
+}
+
+/// Whether the sixteen bytes from a place on are below 128.
+#[inline(always)]
+fn is_ascii_part(text: &[u8], at: usize) -> bool
+    requires { at + 16 ≤ length text.now }
+    ensures { result ≡ list_all is_ascii (chunk at 16 text.now) }
+{
+    let lanes = u8x16::from_slice(&text[at..]);
+    lanes.simd_ge(u8x16::splat(128)).to_bitmask() == 0
+}
+
+/// Whether every byte is below 128, by sixteen bytes at a time.
+fn is_ascii_text(text: &[u8]) -> bool
+    ensures { result ≡ list_all is_ascii text.now }
+{
+    if text.len() < 16 {
+        return is_ascii_word(text);
+    }
+    let last = text.len() - 16;
+    let mut at = 0;
+    'parts: while at < last {
+        if !is_ascii_part(text, at) {
+            return false;
+        }
+        at += 16;
+    }
+    is_ascii_part(text, last)
 }
 
 /// Adds the step of a line, which is given without its end, if it has one. Answers whether the line is inside the grammar.

@@ -1,8 +1,7 @@
-use Rattle.std.proofs.Common.{◌≡◌, ◌∙◌, [], ◌∷◌, List, ℕ, Option, None, refl, sym, ap}
+use Rattle.std.proofs.Common.{◌≡◌, ◌∙◌, ◌∷◌, List, ℕ, Option, None, refl, sym, ap}
 use Rattle.std.proofs.lemmas.List.{append-nil}
 use denote.Ref.{Bor}
 use Rattle.std.specs.Option.{option_copied}
-use Rattle.xet_service.specs.declared.step.Act.{Act}
 use Rattle.xet_demo.specs.Words.{parts_of, parts_after}
 use Rattle.xet_demo.specs.Lines.{words_from}
 use Rattle.xet_demo.proofs.Cuts.{no_command}
