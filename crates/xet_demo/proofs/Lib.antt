@@ -7,4 +7,7 @@ pub mod TermWords
 pub mod Making
 pub mod HexPairs
 pub mod HexBlocks
+pub mod HexLower
+pub mod Places
+pub mod AsciiParts
 pub mod Quiet

@@ -8,9 +8,8 @@ use Rattle.std.proofs.lemmas.List.{append-nil, length-append}
 use Rattle.std.proofs.lemmas.Grind.{flat_map-append}
 use Rattle.memchr.specs.Find.{IsFirstByte, is_byte}
 use Rattle.xet_service.specs.declared.step.Step.{Step}
-use Rattle.xet_demo.specs.declared.script.line.Line.TheVariants.{Bad}
 use Rattle.xet_demo.specs.Words.{parts_of}
-use Rattle.xet_demo.specs.Lines.{line_of}
+use Rattle.xet_demo.specs.Lines.{Bad, line_of}
 use Rattle.std.specs.Prelude.{Err}
 use Rattle.xet_demo.specs.declared.script.ScriptError.{ScriptError}
 use Rattle.xet_demo.specs.declared.script.ScriptError.TheVariants.{BadLine, OutOfMemory}

@@ -1,5 +1,5 @@
 -- The terms of words, one by one.
-use Rattle.std.proofs.Common.{◌≡◌, ◌∙◌, ℕ, ◌<◌, ◌+◌, List, [], ◌∷◌, ◌++◌, length, Option, Some, None, refl, sym, ap, append_assoc, arith}
+use Rattle.std.proofs.Common.{◌≡◌, ℕ, ◌<◌, List, [], ◌∷◌, ◌++◌, length, Option, Some, None, refl, ap, append_assoc, arith}
 use Rattle.xet_generated.specs.Terms.{Term}
 use Rattle.xet_demo.specs.Words.{◌>>=◌, parts_of}
 use Rattle.xet_demo.specs.Terms.{numbers_in, chunks_of, term_in, term_of, terms_of}

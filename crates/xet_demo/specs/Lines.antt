@@ -1,13 +1,13 @@
 -- What the lines of a script mean.
-use Rattle.std.specs.Prelude.{ℕ, ◌==◌, List, [], ◌∷◌, length, slice_index, Option, Some, None, if◌then◌else◌, codes}
+use Rattle.std.specs.Prelude.{◌≡◌, ℕ, Bool, true, false, ◌==◌, List, [], ◌∷◌, ◌++◌, length, slice_index, Option, Some, None, Result, Ok, Err, if◌then◌else◌, codes}
 use Rattle.std.specs.List.{list_all}
 use Rattle.std.specs.Char.{is_ascii}
 use Rattle.xet_service.specs.declared.step.PlanVersion.{PlanVersion}
 use Rattle.xet_service.specs.declared.step.PlanVersion.TheVariants.{V1, V2}
 use Rattle.xet_service.specs.declared.step.Act.{Act}
 use Rattle.xet_service.specs.declared.step.Act.TheVariants.{UploadXorb, UploadShard, Plan, Fetch, Abandon, HideFile, DeleteShard, DeleteXorb, SetExpiration, SetMaxRanges, SetDedupExpiration, DedupQuery, FileSize, FileData, RemoveDedup, ListXorbs, ListShards, ListFiles, CheckIntegrity, CheckReachable, CheckReadable, InsertRandomXorb, InsertLazyFile, Batch}
-use Rattle.xet_demo.specs.declared.script.line.Line.{Line}
-use Rattle.xet_demo.specs.declared.script.line.Line.TheVariants.{Passed, Command, Bad}
+use Rattle.xet_service.specs.declared.step.Step.{Step}
+use Rattle.xet_types.specs.declared.error.OutOfMemory.{OutOfMemory}
 use Rattle.xet_demo.specs.Words.{◌>>=◌, parts_of, is_word, number_of, small_number_of, hash_of, octets_of, range_of}
 use Rattle.xet_demo.specs.Terms.{terms_of}
 
@@ -206,6 +206,12 @@ abbrev pub act_of : List (List ℕ) → Option Act
 act_of (command ∷ words) = if is_word command (codes "batch") then batch_act words else words_of command words
 act_of [] = None
 
+-- What a line means: nothing, as an empty line or a comment; or a step; or it is outside the grammar.
+pub data Line : Type 0 where
+  Passed : Line
+  Command : Step → Line
+  Bad : Line
+
 abbrev pub line_with : ℕ → Option Act → Line
 line_with at (Some act) = Command (record { at = at; act = act })
 line_with at None = Bad
@@ -229,3 +235,18 @@ ascii_line text =
 -- What a line without its end means: every byte must be below 128, also in a comment.
 abbrev pub line_of : List ℕ → Line
 line_of text = if list_all is_ascii text then ascii_line text else Bad
+
+abbrev pub steps_in : Line → List Step
+steps_in (Command step) = step ∷ []
+steps_in Passed = []
+steps_in Bad = []
+
+abbrev pub is_inside : Line → Bool
+is_inside Bad = false
+is_inside Passed = true
+is_inside (Command step) = true
+
+-- The step of the line is added, if it has one, and the answer is whether the line is inside the grammar. Where there is no memory, nothing is added.
+abbrev pub Adds : Line → List Step → List Step → Result Bool OutOfMemory → Type 0
+Adds line old new (Ok inside) = (inside ≡ is_inside line) × (new ≡ old ++ steps_in line)
+Adds line old new (Err e) = new ≡ old

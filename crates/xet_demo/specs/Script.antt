@@ -1,14 +1,12 @@
 -- What a script means, line by line.
-use Rattle.std.specs.Prelude.{◌≡◌, ◌≢◌, ℕ, ◌+◌, List, [], ◌∷◌, ◌++◌, length, Result, Ok, Err}
+use Rattle.std.specs.Prelude.{◌≡◌, ◌≢◌, ℕ, ◌+◌, List, ◌∷◌, ◌++◌, length, Result, Ok, Err}
 use Rattle.std.specs.List.{flat_map, AllByRecursion}
 use Rattle.std.specs.Str.Lines.{lines}
 use Rattle.std.specs.Global.{Vec}
 use Rattle.xet_service.specs.declared.step.Step.{Step}
-use Rattle.xet_demo.specs.declared.script.line.Line.{Line}
-use Rattle.xet_demo.specs.declared.script.line.Line.TheVariants.{Passed, Command, Bad}
 use Rattle.xet_demo.specs.declared.script.ScriptError.{ScriptError}
 use Rattle.xet_demo.specs.declared.script.ScriptError.TheVariants.{BadLine, OutOfMemory}
-use Rattle.xet_demo.specs.Lines.{line_of}
+use Rattle.xet_demo.specs.Lines.{Bad, line_of, steps_in}
 
 -- Lines end with LF, and one CR before it is dropped; the last LF may be missing, and then a CR stays.
 abbrev pub lines_of : List ℕ → List (List ℕ)
@@ -17,11 +15,6 @@ lines_of script = lines script
 -- the line is empty, a comment or a command
 abbrev pub IsInside : List ℕ → Type 0
 IsInside text = line_of text ≢ Bad
-
-abbrev pub steps_in : Line → List Step
-steps_in (Command step) = step ∷ []
-steps_in Passed = []
-steps_in Bad = []
 
 -- the steps of a line: one, or none
 abbrev pub steps_of : List ℕ → List Step

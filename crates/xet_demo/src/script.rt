@@ -5,11 +5,12 @@ ghost use Rattle.xet_demo.specs.Script.{AddsStepsOf, Parses};
 
 pub mod digits;
 pub mod line;
+pub mod places;
 pub mod terms;
 pub mod word;
 
-use line::{Line, line_of};
-use memchr::memchr;
+use line::add_step;
+use places::place_of;
 use std::alloc::{AllocError, AllocFailed, Global};
 use xet_service::Step;
 use xet_types::OutOfMemory;
@@ -63,10 +64,10 @@ fn add_line(
 ) -> Result<(), ScriptError>
     ensures { AddsStepsOf line.now number steps.old.items steps.new.items result }
 {
-    match line_of(alloc, line)? {
-        Line::Passed => Ok(()),
-        Line::Command(step) => Ok(steps.push(step)?),
-        Line::Bad => Err(ScriptError::BadLine(number)),
+    if add_step(alloc, line, steps)? {
+        Ok(())
+    } else {
+        Err(ScriptError::BadLine(number))
     }
 }
 
@@ -77,7 +78,7 @@ pub fn parse_script(alloc: Global, script: &[u8]) -> Result<Vec<Step>, ScriptErr
     let mut steps = Vec::new(alloc);
     let mut rest = script;
     let mut number = 1;
-    'lines: while let Some(end) = memchr(b'\n', rest) {
+    'lines: while let Some(end) = place_of(b'\n', rest) {
         add_line(alloc, without_return(&rest[..end]), number, &mut steps)?;
         rest = &rest[end + 1..];
         number += 1;

@@ -19,7 +19,7 @@ fn looked_up(values: u8x16) -> u8x16
 
 /// The digits of sixteen bytes: those of the first eight, and those of the others.
 #[inline(always)]
-fn digits(bytes: u8x16) -> (u8x16, u8x16)
+pub fn digits(bytes: u8x16) -> (u8x16, u8x16)
     ensures digits { result.0 ++ result.1 ≡ encode_lower bytes }
     ensures front { length result.0 ≡ 16 }
     ensures back { length result.1 ≡ 16 }

@@ -1,175 +1,240 @@
-//! What a line of a script means.
-ghost use Rattle.std.specs.Prelude.{◌≡◌, ◌∷◌, IfOk};
+//! What a line of a script means. Most functions here add the step of what they are given, if it has one, and answer whether it is
+//! inside the grammar.
+ghost use Rattle.std.specs.Prelude.{◌≡◌, ◌+◌, ◌≤◌, ◌∷◌, IfOk, Some, length};
 ghost use Rattle.std.specs.Option.{option_copied, option_map};
 ghost use Rattle.std.specs.List.{list_all};
 ghost use Rattle.std.specs.Char.{is_ascii};
 ghost use Rattle.xet_demo.specs.Words.{parts_of, parts_after};
-ghost use Rattle.xet_demo.specs.Lines.{act_of, dedup_word, short_word, one_word, two_words, words_from, words_line, xorb_act, shard_act, plan_act, fetch_act, abandon_act, hide_act, delete_shard_act, delete_xorb_act, expire_act, max_act, dedup_expire_act, dedup_act, size_act, data_act, ascii_line, line_of, check_word, no_words, drop_dedup_act, three_words, random_act, lazy_act, words_of, hashes_of, batch_act};
+ghost use lib.Lanes.{chunk};
+ghost use Rattle.xet_demo.specs.Lines.{Adds, line_with, act_of, dedup_word, short_word, one_word, two_words, words_from, words_line, xorb_act, shard_act, plan_act, fetch_act, abandon_act, hide_act, delete_shard_act, delete_xorb_act, expire_act, max_act, dedup_expire_act, dedup_act, size_act, data_act, ascii_line, line_of, check_word, no_words, drop_dedup_act, three_words, random_act, lazy_act, words_of, hashes_of, batch_act};
 
 use super::digits::hash;
 use super::terms::terms;
 use super::word::{cut, number, octets, range, small_number};
 use std::alloc::Global;
+use std::simd::prelude::*;
 use xet_service::{Act, PlanVersion, Step};
 use xet_types::{Items, MerkleHash, OutOfMemory};
 
-/// What a line means.
-#[derive(Debug, Drop)]
-pub enum Line {
-    /// It is empty or a comment.
-    Passed,
-    Command(Step),
-    /// It is outside the grammar.
-    Bad,
+/// Adds the step of an act.
+#[inline(always)]
+fn add(at: u64, act: Act, steps: &mut Vec<Step>) -> Result<bool, OutOfMemory>
+    ensures { Adds (line_with at (Some act)) steps.old.items steps.new.items result }
+{
+    steps.push(Step { at, act })?;
+    Ok(true)
 }
 
-fn xorb(alloc: Global, name: &[u8], content: &[u8]) -> Result<Option<Act>, OutOfMemory>
-    ensures { IfOk result (λ act. act ≡ xorb_act name.now content.now) }
+fn xorb(
+    alloc: Global,
+    at: u64,
+    name: &[u8],
+    content: &[u8],
+    steps: &mut Vec<Step>,
+) -> Result<bool, OutOfMemory>
+    ensures { Adds (line_with at (xorb_act name.now content.now)) steps.old.items steps.new.items result }
 {
     let Some(hash) = hash(name) else {
-        return Ok(None);
+        return Ok(false);
     };
     match octets(alloc, content)? {
-        Some(content) => Ok(Some(Act::UploadXorb { hash, content })),
-        None => Ok(None),
+        Some(content) => add(at, Act::UploadXorb { hash, content }, steps),
+        None => Ok(false),
     }
 }
 
-fn shard(alloc: Global, content: &[u8]) -> Result<Option<Act>, OutOfMemory>
-    ensures { IfOk result (λ act. act ≡ shard_act content.now) }
+fn shard(alloc: Global, at: u64, content: &[u8], steps: &mut Vec<Step>) -> Result<bool, OutOfMemory>
+    ensures { Adds (line_with at (shard_act content.now)) steps.old.items steps.new.items result }
 {
     match octets(alloc, content)? {
-        Some(content) => Ok(Some(Act::UploadShard { content })),
-        None => Ok(None),
+        Some(content) => add(at, Act::UploadShard { content }, steps),
+        None => Ok(false),
     }
 }
 
-fn plan(version: PlanVersion, file: &[u8], bytes: &[u8]) -> Option<Act>
-    ensures { result ≡ plan_act version file.now bytes.now }
+fn plan(
+    at: u64,
+    version: PlanVersion,
+    file: &[u8],
+    bytes: &[u8],
+    steps: &mut Vec<Step>,
+) -> Result<bool, OutOfMemory>
+    ensures { Adds (line_with at (plan_act version file.now bytes.now)) steps.old.items steps.new.items result }
 {
-    let file = hash(file)?;
-    let range = range(bytes)?;
-    Some(Act::Plan {
+    let Some(file) = hash(file) else {
+        return Ok(false);
+    };
+    let Some(range) = range(bytes) else {
+        return Ok(false);
+    };
+    let act = Act::Plan {
         version,
         file,
         range,
-    })
+    };
+    add(at, act, steps)
 }
 
-fn fetch(read: &[u8], link: &[u8]) -> Option<Act>
-    ensures { result ≡ fetch_act read.now link.now }
+fn fetch(at: u64, read: &[u8], link: &[u8], steps: &mut Vec<Step>) -> Result<bool, OutOfMemory>
+    ensures { Adds (line_with at (fetch_act read.now link.now)) steps.old.items steps.new.items result }
 {
-    let read = number(read)?;
-    let link = small_number(link)?;
-    Some(Act::Fetch { read, link })
+    let Some(read) = number(read) else {
+        return Ok(false);
+    };
+    let Some(link) = small_number(link) else {
+        return Ok(false);
+    };
+    add(at, Act::Fetch { read, link }, steps)
 }
 
-fn abandon(read: &[u8]) -> Option<Act>
-    ensures { result ≡ abandon_act read.now }
+fn abandon(at: u64, read: &[u8], steps: &mut Vec<Step>) -> Result<bool, OutOfMemory>
+    ensures { Adds (line_with at (abandon_act read.now)) steps.old.items steps.new.items result }
 {
-    let read = number(read)?;
-    Some(Act::Abandon { read })
+    let Some(read) = number(read) else {
+        return Ok(false);
+    };
+    add(at, Act::Abandon { read }, steps)
 }
 
-fn hide(file: &[u8]) -> Option<Act>
-    ensures { result ≡ hide_act file.now }
+fn hide(at: u64, file: &[u8], steps: &mut Vec<Step>) -> Result<bool, OutOfMemory>
+    ensures { Adds (line_with at (hide_act file.now)) steps.old.items steps.new.items result }
 {
-    let file = hash(file)?;
-    Some(Act::HideFile { file })
+    let Some(file) = hash(file) else {
+        return Ok(false);
+    };
+    add(at, Act::HideFile { file }, steps)
 }
 
-fn delete_shard(name: &[u8]) -> Option<Act>
-    ensures { result ≡ delete_shard_act name.now }
+fn delete_shard(at: u64, name: &[u8], steps: &mut Vec<Step>) -> Result<bool, OutOfMemory>
+    ensures { Adds (line_with at (delete_shard_act name.now)) steps.old.items steps.new.items result }
 {
-    let shard = hash(name)?;
-    Some(Act::DeleteShard { shard })
+    let Some(shard) = hash(name) else {
+        return Ok(false);
+    };
+    add(at, Act::DeleteShard { shard }, steps)
 }
 
-fn delete_xorb(name: &[u8]) -> Option<Act>
-    ensures { result ≡ delete_xorb_act name.now }
+fn delete_xorb(at: u64, name: &[u8], steps: &mut Vec<Step>) -> Result<bool, OutOfMemory>
+    ensures { Adds (line_with at (delete_xorb_act name.now)) steps.old.items steps.new.items result }
 {
-    let xorb = hash(name)?;
-    Some(Act::DeleteXorb { xorb })
+    let Some(xorb) = hash(name) else {
+        return Ok(false);
+    };
+    add(at, Act::DeleteXorb { xorb }, steps)
 }
 
-fn expire(millis: &[u8]) -> Option<Act>
-    ensures { result ≡ expire_act millis.now }
+fn expire(at: u64, millis: &[u8], steps: &mut Vec<Step>) -> Result<bool, OutOfMemory>
+    ensures { Adds (line_with at (expire_act millis.now)) steps.old.items steps.new.items result }
 {
-    let millis = number(millis)?;
-    Some(Act::SetExpiration { millis })
+    let Some(millis) = number(millis) else {
+        return Ok(false);
+    };
+    add(at, Act::SetExpiration { millis }, steps)
 }
 
-fn max(max: &[u8]) -> Option<Act>
-    ensures { result ≡ max_act max.now }
+fn max(at: u64, max: &[u8], steps: &mut Vec<Step>) -> Result<bool, OutOfMemory>
+    ensures { Adds (line_with at (max_act max.now)) steps.old.items steps.new.items result }
 {
-    let max = number(max)?;
-    Some(Act::SetMaxRanges { max })
+    let Some(max) = number(max) else {
+        return Ok(false);
+    };
+    add(at, Act::SetMaxRanges { max }, steps)
 }
 
-fn dedup_expire(millis: &[u8]) -> Option<Act>
-    ensures { result ≡ dedup_expire_act millis.now }
+fn dedup_expire(at: u64, millis: &[u8], steps: &mut Vec<Step>) -> Result<bool, OutOfMemory>
+    ensures { Adds (line_with at (dedup_expire_act millis.now)) steps.old.items steps.new.items result }
 {
     if millis == b"never".as_slice() {
-        return Some(Act::SetDedupExpiration { millis: None });
+        return add(at, Act::SetDedupExpiration { millis: None }, steps);
     }
-    let millis = number(millis)?;
-    Some(Act::SetDedupExpiration {
-        millis: Some(millis),
-    })
+    let Some(millis) = number(millis) else {
+        return Ok(false);
+    };
+    let millis = Some(millis);
+    add(at, Act::SetDedupExpiration { millis }, steps)
 }
 
-fn dedup(chunk: &[u8]) -> Option<Act>
-    ensures { result ≡ dedup_act chunk.now }
+fn dedup(at: u64, chunk: &[u8], steps: &mut Vec<Step>) -> Result<bool, OutOfMemory>
+    ensures { Adds (line_with at (dedup_act chunk.now)) steps.old.items steps.new.items result }
 {
-    let chunk = hash(chunk)?;
-    Some(Act::DedupQuery { chunk })
+    let Some(chunk) = hash(chunk) else {
+        return Ok(false);
+    };
+    add(at, Act::DedupQuery { chunk }, steps)
 }
 
-fn drop_dedup(name: &[u8]) -> Option<Act>
-    ensures { result ≡ drop_dedup_act name.now }
+fn drop_dedup(at: u64, name: &[u8], steps: &mut Vec<Step>) -> Result<bool, OutOfMemory>
+    ensures { Adds (line_with at (drop_dedup_act name.now)) steps.old.items steps.new.items result }
 {
-    let shard = hash(name)?;
-    Some(Act::RemoveDedup { shard })
+    let Some(shard) = hash(name) else {
+        return Ok(false);
+    };
+    add(at, Act::RemoveDedup { shard }, steps)
 }
 
-fn size(file: &[u8]) -> Option<Act>
-    ensures { result ≡ size_act file.now }
+fn size(at: u64, file: &[u8], steps: &mut Vec<Step>) -> Result<bool, OutOfMemory>
+    ensures { Adds (line_with at (size_act file.now)) steps.old.items steps.new.items result }
 {
-    let file = hash(file)?;
-    Some(Act::FileSize { file })
+    let Some(file) = hash(file) else {
+        return Ok(false);
+    };
+    add(at, Act::FileSize { file }, steps)
 }
 
-fn data(file: &[u8], bytes: &[u8]) -> Option<Act>
-    ensures { result ≡ data_act file.now bytes.now }
+fn data(at: u64, file: &[u8], bytes: &[u8], steps: &mut Vec<Step>) -> Result<bool, OutOfMemory>
+    ensures { Adds (line_with at (data_act file.now bytes.now)) steps.old.items steps.new.items result }
 {
-    let file = hash(file)?;
-    let range = range(bytes)?;
-    Some(Act::FileData { file, range })
+    let Some(file) = hash(file) else {
+        return Ok(false);
+    };
+    let Some(range) = range(bytes) else {
+        return Ok(false);
+    };
+    add(at, Act::FileData { file, range }, steps)
 }
 
-fn random(seed: &[u8], count: &[u8], size: &[u8]) -> Option<Act>
-    ensures { result ≡ random_act seed.now count.now size.now }
+fn random(
+    at: u64,
+    seed: &[u8],
+    count: &[u8],
+    size: &[u8],
+    steps: &mut Vec<Step>,
+) -> Result<bool, OutOfMemory>
+    ensures { Adds (line_with at (random_act seed.now count.now size.now)) steps.old.items steps.new.items result }
 {
-    let seed = number(seed)?;
-    let num_chunks = small_number(count)?;
-    let chunk_size = small_number(size)?;
-    Some(Act::InsertRandomXorb {
+    let Some(seed) = number(seed) else {
+        return Ok(false);
+    };
+    let Some(num_chunks) = small_number(count) else {
+        return Ok(false);
+    };
+    let Some(chunk_size) = small_number(size) else {
+        return Ok(false);
+    };
+    let act = Act::InsertRandomXorb {
         seed,
         num_chunks,
         chunk_size,
-    })
+    };
+    add(at, act, steps)
 }
 
 /// A generated file, by the length of its chunks and, behind it, its terms, joined by single spaces.
-fn lazy(alloc: Global, size: &[u8], words: Option<&[u8]>) -> Result<Option<Act>, OutOfMemory>
-    ensures { IfOk result (λ act. act ≡ lazy_act (size.now ∷ parts_after 32 (option_copied words.entry))) }
+fn lazy(
+    alloc: Global,
+    at: u64,
+    size: &[u8],
+    words: Option<&[u8]>,
+    steps: &mut Vec<Step>,
+) -> Result<bool, OutOfMemory>
+    ensures { Adds (line_with at (lazy_act (size.now ∷ parts_after 32 (option_copied words.entry)))) steps.old.items steps.new.items result }
 {
     let Some(chunk_size) = number(size) else {
-        return Ok(None);
+        return Ok(false);
     };
     match terms(alloc, words)? {
-        Some(terms) => Ok(Some(Act::InsertLazyFile { terms, chunk_size })),
-        None => Ok(None),
+        Some(terms) => add(at, Act::InsertLazyFile { terms, chunk_size }, steps),
+        None => Ok(false),
     }
 }
 
@@ -190,216 +255,262 @@ fn hashes(alloc: Global, words: Option<&[u8]>) -> Result<Option<Vec<MerkleHash>>
     Ok(Some(hashes))
 }
 
-fn batch(alloc: Global, words: Option<&[u8]>) -> Result<Option<Act>, OutOfMemory>
-    ensures { IfOk result (λ act. act ≡ batch_act (parts_after 32 (option_copied words.entry))) }
+fn batch(
+    alloc: Global,
+    at: u64,
+    words: Option<&[u8]>,
+    steps: &mut Vec<Step>,
+) -> Result<bool, OutOfMemory>
+    ensures { Adds (line_with at (batch_act (parts_after 32 (option_copied words.entry)))) steps.old.items steps.new.items result }
 {
     let Some(files) = hashes(alloc, words)? else {
-        return Ok(None);
+        return Ok(false);
     };
     if files.is_empty() {
-        return Ok(None);
+        return Ok(false);
     }
-    Ok(Some(Act::Batch {
-        files: Items::from_vec(files),
-    }))
+    let files = Items::from_vec(files);
+    add(at, Act::Batch { files }, steps)
 }
 
-/// The act of a command on deduplication.
-fn dedup_word(command: &[u8], word: &[u8]) -> Option<Act>
-    ensures { result ≡ dedup_word command.now word.now }
+/// A command on deduplication.
+fn dedup_word(
+    at: u64,
+    command: &[u8],
+    word: &[u8],
+    steps: &mut Vec<Step>,
+) -> Result<bool, OutOfMemory>
+    ensures { Adds (line_with at (dedup_word command.now word.now)) steps.old.items steps.new.items result }
 {
     if command == b"dedup-expire".as_slice() {
-        dedup_expire(word)
+        dedup_expire(at, word, steps)
     } else if command == b"dedup".as_slice() {
-        dedup(word)
+        dedup(at, word, steps)
     } else if command == b"drop-dedup".as_slice() {
-        drop_dedup(word)
+        drop_dedup(at, word, steps)
     } else {
-        None
+        Ok(false)
     }
 }
 
-/// The act of a check.
-fn check_word(command: &[u8]) -> Option<Act>
-    ensures { result ≡ check_word command.now }
+/// A check.
+fn check_word(at: u64, command: &[u8], steps: &mut Vec<Step>) -> Result<bool, OutOfMemory>
+    ensures { Adds (line_with at (check_word command.now)) steps.old.items steps.new.items result }
 {
     if command == b"integrity".as_slice() {
-        Some(Act::CheckIntegrity)
+        add(at, Act::CheckIntegrity, steps)
     } else if command == b"reachable".as_slice() {
-        Some(Act::CheckReachable)
+        add(at, Act::CheckReachable, steps)
     } else if command == b"readable".as_slice() {
-        Some(Act::CheckReadable)
+        add(at, Act::CheckReadable, steps)
     } else {
-        None
+        Ok(false)
     }
 }
 
-/// The act of a command without words.
-fn no_words(command: &[u8]) -> Option<Act>
-    ensures { result ≡ no_words command.now }
+/// A command without words.
+fn no_words(at: u64, command: &[u8], steps: &mut Vec<Step>) -> Result<bool, OutOfMemory>
+    ensures { Adds (line_with at (no_words command.now)) steps.old.items steps.new.items result }
 {
     if command == b"xorbs".as_slice() {
-        Some(Act::ListXorbs)
+        add(at, Act::ListXorbs, steps)
     } else if command == b"shards".as_slice() {
-        Some(Act::ListShards)
+        add(at, Act::ListShards, steps)
     } else if command == b"files".as_slice() {
-        Some(Act::ListFiles)
+        add(at, Act::ListFiles, steps)
     } else {
-        check_word(command)
+        check_word(at, command, steps)
     }
 }
 
-/// The act of a command with one short word.
-fn short_word(command: &[u8], word: &[u8]) -> Option<Act>
-    ensures { result ≡ short_word command.now word.now }
+/// A command with one short word.
+fn short_word(
+    at: u64,
+    command: &[u8],
+    word: &[u8],
+    steps: &mut Vec<Step>,
+) -> Result<bool, OutOfMemory>
+    ensures { Adds (line_with at (short_word command.now word.now)) steps.old.items steps.new.items result }
 {
     if command == b"abandon".as_slice() {
-        abandon(word)
+        abandon(at, word, steps)
     } else if command == b"hide".as_slice() {
-        hide(word)
+        hide(at, word, steps)
     } else if command == b"delete-shard".as_slice() {
-        delete_shard(word)
+        delete_shard(at, word, steps)
     } else if command == b"delete-xorb".as_slice() {
-        delete_xorb(word)
+        delete_xorb(at, word, steps)
     } else if command == b"expire".as_slice() {
-        expire(word)
+        expire(at, word, steps)
     } else if command == b"max".as_slice() {
-        max(word)
+        max(at, word, steps)
     } else if command == b"size".as_slice() {
-        size(word)
+        size(at, word, steps)
     } else {
-        dedup_word(command, word)
+        dedup_word(at, command, word, steps)
     }
 }
 
-/// The act of a command with one word.
-fn one_word(alloc: Global, command: &[u8], word: &[u8]) -> Result<Option<Act>, OutOfMemory>
-    ensures { IfOk result (λ act. act ≡ one_word command.now word.now) }
+/// A command with one word.
+fn one_word(
+    alloc: Global,
+    at: u64,
+    command: &[u8],
+    word: &[u8],
+    steps: &mut Vec<Step>,
+) -> Result<bool, OutOfMemory>
+    ensures { Adds (line_with at (one_word command.now word.now)) steps.old.items steps.new.items result }
 {
     if command == b"shard".as_slice() {
-        shard(alloc, word)
+        shard(alloc, at, word, steps)
     } else {
-        Ok(short_word(command, word))
+        short_word(at, command, word, steps)
     }
 }
 
-/// The act of a command with two words.
+/// A command with two words.
 fn two_words(
     alloc: Global,
+    at: u64,
     command: &[u8],
     first: &[u8],
     second: &[u8],
-) -> Result<Option<Act>, OutOfMemory>
-    ensures { IfOk result (λ act. act ≡ two_words command.now first.now second.now) }
+    steps: &mut Vec<Step>,
+) -> Result<bool, OutOfMemory>
+    ensures { Adds (line_with at (two_words command.now first.now second.now)) steps.old.items steps.new.items result }
 {
     if command == b"xorb".as_slice() {
-        xorb(alloc, first, second)
+        xorb(alloc, at, first, second, steps)
     } else if command == b"plan1".as_slice() {
-        Ok(plan(PlanVersion::V1, first, second))
+        plan(at, PlanVersion::V1, first, second, steps)
     } else if command == b"plan2".as_slice() {
-        Ok(plan(PlanVersion::V2, first, second))
+        plan(at, PlanVersion::V2, first, second, steps)
     } else if command == b"fetch".as_slice() {
-        Ok(fetch(first, second))
+        fetch(at, first, second, steps)
     } else if command == b"data".as_slice() {
-        Ok(data(first, second))
+        data(at, first, second, steps)
     } else {
-        Ok(None)
+        Ok(false)
     }
 }
 
-/// The act of a command with three words.
-fn three_words(command: &[u8], first: &[u8], second: &[u8], third: &[u8]) -> Option<Act>
-    ensures { result ≡ three_words command.now first.now second.now third.now }
+/// A command with three words.
+fn three_words(
+    at: u64,
+    command: &[u8],
+    first: &[u8],
+    second: &[u8],
+    third: &[u8],
+    steps: &mut Vec<Step>,
+) -> Result<bool, OutOfMemory>
+    ensures { Adds (line_with at (three_words command.now first.now second.now third.now)) steps.old.items steps.new.items result }
 {
     if command == b"random".as_slice() {
-        random(first, second, third)
+        random(at, first, second, third, steps)
     } else {
-        None
+        Ok(false)
     }
 }
 
-/// The act of a command with two words, and behind them more, joined by single spaces.
-fn more_words(command: &[u8], first: &[u8], second: &[u8], words: &[u8]) -> Option<Act>
-    ensures { result ≡ words_from command.now (first.now ∷ second.now ∷ parts_of 32 words.now) }
+/// A command with two words, and behind them more, joined by single spaces.
+fn more_words(
+    at: u64,
+    command: &[u8],
+    first: &[u8],
+    second: &[u8],
+    words: &[u8],
+    steps: &mut Vec<Step>,
+) -> Result<bool, OutOfMemory>
+    ensures { Adds (line_with at (words_from command.now (first.now ∷ second.now ∷ parts_of 32 words.now))) steps.old.items steps.new.items result }
 {
     let (third, rest) = cut(words, b' ');
     match rest {
-        None => three_words(command, first, second, third),
-        Some(_) => None,
+        None => three_words(at, command, first, second, third, steps),
+        Some(_) => Ok(false),
     }
 }
 
-/// The act of a command whose words are joined by single spaces.
-fn act_with(alloc: Global, command: &[u8], words: &[u8]) -> Result<Option<Act>, OutOfMemory>
-    ensures { IfOk result (λ act. act ≡ words_from command.now (parts_of 32 words.now)) }
+/// A command whose words are joined by single spaces.
+fn act_with(
+    alloc: Global,
+    at: u64,
+    command: &[u8],
+    words: &[u8],
+    steps: &mut Vec<Step>,
+) -> Result<bool, OutOfMemory>
+    ensures { Adds (line_with at (words_from command.now (parts_of 32 words.now))) steps.old.items steps.new.items result }
 {
     let (first, rest) = cut(words, b' ');
     let Some(rest) = rest else {
-        return one_word(alloc, command, first);
+        return one_word(alloc, at, command, first, steps);
     };
     let (second, rest) = cut(rest, b' ');
     match rest {
-        None => two_words(alloc, command, first, second),
-        Some(rest) => Ok(more_words(command, first, second, rest)),
+        None => two_words(alloc, at, command, first, second, steps),
+        Some(rest) => more_words(at, command, first, second, rest, steps),
     }
 }
 
-/// The act of a command with words, of which one command takes any number.
-fn words(alloc: Global, command: &[u8], words: &[u8]) -> Result<Option<Act>, OutOfMemory>
-    ensures { IfOk result (λ act. act ≡ words_of command.now (parts_of 32 words.now)) }
+/// A command with words, of which one command takes any number.
+fn words(
+    alloc: Global,
+    at: u64,
+    command: &[u8],
+    words: &[u8],
+    steps: &mut Vec<Step>,
+) -> Result<bool, OutOfMemory>
+    ensures { Adds (line_with at (words_of command.now (parts_of 32 words.now))) steps.old.items steps.new.items result }
 {
     if command == b"lazy".as_slice() {
         let (size, rest) = cut(words, b' ');
-        lazy(alloc, size, rest)
+        lazy(alloc, at, size, rest, steps)
     } else {
-        act_with(alloc, command, words)
+        act_with(alloc, at, command, words, steps)
     }
 }
 
-fn act(alloc: Global, text: &[u8]) -> Result<Option<Act>, OutOfMemory>
-    ensures { IfOk result (λ act. act ≡ act_of (parts_of 32 text.now)) }
+fn act(alloc: Global, at: u64, text: &[u8], steps: &mut Vec<Step>) -> Result<bool, OutOfMemory>
+    ensures { Adds (line_with at (act_of (parts_of 32 text.now))) steps.old.items steps.new.items result }
 {
     let (command, rest) = cut(text, b' ');
     if command == b"batch".as_slice() {
-        return batch(alloc, rest);
+        return batch(alloc, at, rest, steps);
     }
     match rest {
-        Some(rest) => words(alloc, command, rest),
-        None => Ok(no_words(command)),
+        Some(rest) => words(alloc, at, command, rest, steps),
+        None => no_words(at, command, steps),
     }
 }
 
 /// A moment, and an act at it.
-fn command(alloc: Global, text: &[u8]) -> Result<Line, OutOfMemory>
-    ensures { IfOk result (λ line. line ≡ words_line (parts_of 32 text.now)) }
+fn command(alloc: Global, text: &[u8], steps: &mut Vec<Step>) -> Result<bool, OutOfMemory>
+    ensures { Adds (words_line (parts_of 32 text.now)) steps.old.items steps.new.items result }
 {
     let (at, rest) = cut(text, b' ');
     let Some(at) = number(at) else {
-        return Ok(Line::Bad);
+        return Ok(false);
     };
     let Some(rest) = rest else {
-        return Ok(Line::Bad);
+        return Ok(false);
     };
-    match act(alloc, rest)? {
-        Some(act) => Ok(Line::Command(Step { at, act })),
-        None => Ok(Line::Bad),
-    }
+    act(alloc, at, rest, steps)
 }
 
-fn ascii_line(alloc: Global, text: &[u8]) -> Result<Line, OutOfMemory>
-    ensures { IfOk result (λ line. line ≡ ascii_line text.now) }
+fn ascii_line(alloc: Global, text: &[u8], steps: &mut Vec<Step>) -> Result<bool, OutOfMemory>
+    ensures { Adds (ascii_line text.now) steps.old.items steps.new.items result }
 {
     if text.is_empty() {
-        return Ok(Line::Passed);
+        return Ok(true);
     }
     if text[0] == b'#' {
-        return Ok(Line::Passed);
+        return Ok(true);
     }
-    command(alloc, text)
+    command(alloc, text, steps)
 }
 
-/// Whether every byte is below 128.
-fn is_ascii_text(text: &[u8]) -> bool
+/// Whether every byte of a short text is below 128.
+#[inline(always)]
+fn is_ascii_word(text: &[u8]) -> bool
     ensures { result ≡ list_all is_ascii text.now }
 {
     let mut greatest = 0u8;
@@ -409,13 +520,41 @@ fn is_ascii_text(text: &[u8]) -> bool
     greatest < 128
 }
 
-/// What a line means, given without its end.
-pub fn line_of(alloc: Global, text: &[u8]) -> Result<Line, OutOfMemory>
-    ensures { IfOk result (λ line. line ≡ line_of text.now) }
+/// Whether the sixteen bytes from a place on are below 128.
+#[inline(always)]
+fn is_ascii_part(text: &[u8], at: usize) -> bool
+    requires { at + 16 ≤ length text.now }
+    ensures { result ≡ list_all is_ascii (chunk at 16 text.now) }
+{
+    let lanes = u8x16::from_slice(&text[at..]);
+    lanes.simd_ge(u8x16::splat(128)).to_bitmask() == 0
+}
+
+/// Whether every byte is below 128, by sixteen bytes at a time.
+fn is_ascii_text(text: &[u8]) -> bool
+    ensures { result ≡ list_all is_ascii text.now }
+{
+    if text.len() < 16 {
+        return is_ascii_word(text);
+    }
+    let last = text.len() - 16;
+    let mut at = 0;
+    'parts: while at < last {
+        if !is_ascii_part(text, at) {
+            return false;
+        }
+        at += 16;
+    }
+    is_ascii_part(text, last)
+}
+
+/// Adds the step of a line, which is given without its end, if it has one. Answers whether the line is inside the grammar.
+pub fn add_step(alloc: Global, text: &[u8], steps: &mut Vec<Step>) -> Result<bool, OutOfMemory>
+    ensures { Adds (line_of text.now) steps.old.items steps.new.items result }
 {
     if is_ascii_text(text) {
-        ascii_line(alloc, text)
+        ascii_line(alloc, text, steps)
     } else {
-        Ok(Line::Bad)
+        Ok(false)
     }
 }

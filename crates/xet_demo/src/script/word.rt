@@ -6,7 +6,7 @@ ghost use Rattle.std.specs.Option.{option_copied};
 ghost use Rattle.xet_demo.specs.Words.{parts_of, parts_after, number_of, small_number_of, octets_of, range_of, between, value_of};
 
 use super::digits::decode;
-use memchr::memchr;
+use super::places::place_of;
 use std::alloc::Global;
 use xet_types::{FileRange, Octets, OutOfMemory};
 
@@ -17,7 +17,7 @@ const MOST_DIGITS: usize = 20;
 pub fn cut(text: &[u8], separator: u8) -> (&[u8], Option<&[u8]>)
     ensures { parts_of separator text.now ≡ result.0.now ∷ parts_after separator (option_copied result.1) }
 {
-    match memchr(separator, text) {
+    match place_of(separator, text) {
         Some(at) => (&text[..at], Some(&text[at + 1..])),
         None => (text, None),
     }

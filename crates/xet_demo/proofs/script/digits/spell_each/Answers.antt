@@ -2,7 +2,7 @@ use Rattle.std.proofs.Common.{ℕ, ◌*◌, ◌+◌, ◌<◌, List, get_or, arit
 use Rattle.std.proofs.lemmas.Bool.{ltb-true}
 use Rattle.hex.proofs.Pairs.{decode_step, decode_done}
 use Rattle.xet_demo.proofs.HexPairs.{pair_computed}
-use Rattle.xet_demo.proofs.script.digits.spell.Goals as goal
+use Rattle.xet_demo.proofs.script.digits.spell_each.Goals as goal
 
 pub bytes-preserved : goal.bytes-preserved
 bytes-preserved c =
