@@ -46,6 +46,9 @@ are_chunks_in bytes chunks are = subst (AreChunksOf bytes) (sym (chunks_in-are b
 pub are_whole_in : (bytes : List ℕ) (chunks : List (List ℕ)) → AreWholeChunks bytes chunks → AreWholeChunks bytes (chunks_in bytes)
 are_whole_in bytes chunks are = subst (AreWholeChunks bytes) (sym (chunks_in-are bytes chunks are.spelled)) are
 
+pub no_text : AreChunksOf [] []
+no_text = record { each = All-from_recursion IsChunk [] tt; text = refl }
+
 -- ---- the next chunk
 
 -- bytes that are chunks, and begin with this one

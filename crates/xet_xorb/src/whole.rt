@@ -78,6 +78,13 @@ impl<'a> Model for ChunkWalk<'a> {
 }
 
 impl<'a> ChunkWalk<'a> {
+    /// A walk through no chunks.
+    pub fn empty() -> ChunkWalk<'a>
+        ensures { result ≡ [] }
+    {
+        ChunkWalk { rest: &[] }
+    }
+
     /// The next chunk; none at the end.
     pub fn next(&mut self) -> Option<&'a [u8]>
         ensures { MatchOption result (self.old ≡ []) (λ chunk. self.old ≡ chunk.now ∷ self.new) }
