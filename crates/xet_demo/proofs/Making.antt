@@ -1,7 +1,7 @@
 -- The files of a large run, and the sums of its summary.
-use Rattle.std.proofs.Common.{◌≡◌, ◌∙◌, ℕ, suc, ◌+◌, ◌-◌, ◌*◌, ◌^◌, ◌<◌, ◌==◌, true, cond, List, [], ◌∷◌, ◌++◌, map, max, min, replicate, slice_range, refl, sym, ap, subst, arith, append-nil}
+use Rattle.std.proofs.Common.{◌≡◌, ◌∙◌, ℕ, suc, ◌+◌, ◌-◌, ◌*◌, ◌^◌, ◌<◌, ◌==◌, true, cond, List, [], ◌∷◌, ◌++◌, length, map, max, min, replicate, slice_range, refl, sym, ap, subst, arith, append-nil}
 use Rattle.std.proofs.lemmas.Bool.{eq-eqb}
-use Rattle.std.proofs.lemmas.List.{map-append}
+use Rattle.std.proofs.lemmas.List.{map-append, length-append}
 use Rattle.std.proofs.lemmas.List.Elements.{All-from_recursion}
 use Rattle.xet_types.specs.Names.{file_name}
 use Rattle.xet_xorb.specs.Lengths.{IsChunkLength, AreLengths}
@@ -61,3 +61,22 @@ name_is k =
 -- with the steps of one more file
 pub made_more : (k : ℕ) → made_steps (k + 1) ≡ made_steps k ++ file_steps k
 made_more k = let e : k + 1 ≡ suc k = omega arith in rw e refl
+
+-- ---- how many bytes pieces have
+
+-- the bytes before those that are left were counted
+pub record HasCounted (all left : List ℕ) (count : ℕ) : Type 0 where
+  pub before : ℕ
+  pub sum : length all ≡ before + length left
+  pub is : count ≡ capped before
+
+pub counts_on : (all left piece rest : List ℕ) (count next : ℕ) → HasCounted all left count → left ≡ piece ++ rest → next ≡ min (count + length piece) (2 ^ 64 - 1) → HasCounted all rest next
+counts_on all left piece rest count next h is next_is = record {
+  before = h.before + length piece;
+  sum = omega (arith, h.sum, ap length is, length-append piece rest);
+  is = next_is ∙ ap (λ (n : ℕ). min (n + length piece) (2 ^ 64 - 1)) h.is ∙ capped_more h.before (length piece);
+}
+
+pub has_counted : (all left : List ℕ) (count : ℕ) → HasCounted all left count → left ≡ [] → count ≡ capped (length all)
+has_counted all left count h end =
+    let e : h.before ≡ length all = omega (arith, h.sum, ap length end) in h.is ∙ ap capped e

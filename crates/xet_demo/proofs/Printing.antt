@@ -5,7 +5,7 @@ use Rattle.std.proofs.KnownBytes.{Appends-nil, Appends-trans}
 use Rattle.std.proofs.Math.Seq.{take-add}
 use Rattle.std.proofs.lemmas.Bool.{false≢true}
 use Rattle.std.proofs.lemmas.List.{take-take, take_all, append-nil, take-append-drop, take-append-le, length-append}
-use Rattle.hex.specs.Hex.{encode_with}
+use Rattle.hex.specs.Hex.{encode_with, encode_lower, lower_digits}
 use Rattle.xet_types.specs.Faults.{Rose}
 use Rattle.xet_demo.specs.Pages.{Output, Holds, Prints, WritesFront, PageText, output, with_text, blank}
 
@@ -114,3 +114,29 @@ front_written start taken before faults printed page h failed =
       },
       h.rose failed,
     )
+
+-- ---- bytes that are printed as digits, piece after piece
+
+-- the bytes before those that are left were printed
+pub record HasWalked (start here : Output) (all left : List ℕ) : Type 0 where
+  pub before : List ℕ
+  pub all_is : all ≡ before ++ left
+  pub printed : Prints start here (encode_lower before)
+
+pub walk_starts : (start : Output) (all left : List ℕ) → left ≡ all → HasWalked start start all left
+walk_starts start all left same = record {
+  before = [];
+  all_is = sym same;
+  printed = subst (λ (t : List ℕ). Prints start start t) (sym (encode_with-nil lower_digits)) (prints_nothing start);
+}
+
+pub walks_on : (start here next : Output) (all left piece rest : List ℕ) → HasWalked start here all left → left ≡ piece ++ rest → Prints here next (encode_lower piece) → HasWalked start next all rest
+walks_on start here next all left piece rest h is p = record {
+  before = h.before ++ piece;
+  all_is = h.all_is ∙ ap (λ (t : List ℕ). h.before ++ t) is ∙ sym (append_assoc h.before piece rest);
+  printed = subst (λ (t : List ℕ). Prints start next t) (sym (encode_with-append lower_digits h.before piece)) (prints_then h.printed p);
+}
+
+pub has_walked : (start here : Output) (all left : List ℕ) → HasWalked start here all left → left ≡ [] → Prints start here (encode_lower all)
+has_walked start here all left h end =
+    subst (λ (t : List ℕ). Prints start here (encode_lower t)) (sym (h.all_is ∙ ap (λ (t : List ℕ). h.before ++ t) end ∙ append-nil h.before)) h.printed

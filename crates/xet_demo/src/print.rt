@@ -1,7 +1,7 @@
 //! Replies as text.
 ghost use Rattle.std.specs.Prelude.{◌≡◌, ◌∷◌, ◌++◌, length, codes};
 ghost use Rattle.std.specs.Fmt.{decimal};
-ghost use Rattle.std.specs.List.{concat, flat_map};
+ghost use Rattle.std.specs.List.{flat_map};
 ghost use Rattle.hex.specs.Hex.{encode_lower};
 ghost use Rattle.xet_wire.specs.Links.{link_text};
 ghost use Rattle.xet_demo.specs.Pages.{Prints, output};
@@ -12,7 +12,6 @@ pub mod digits;
 pub mod page;
 pub mod summary;
 
-use bytes::Bytes;
 use page::Page;
 use summary::print_summary;
 use xet_service::{
@@ -419,11 +418,12 @@ fn print_octets<K: Sink>(page: &mut Page, sink: &mut K, bytes: &Octets)
 }
 
 /// Prints pieces as hexadecimal digits, one behind the other.
-fn print_hex<K: Sink>(page: &mut Page, sink: &mut K, pieces: &[Bytes])
-    ensures { Prints (output (K.taken sink.old) (K.faults sink.old) page.old) (output (K.taken sink.new) (K.faults sink.new) page.new) (encode_lower (concat pieces.now)) }
+fn print_hex<K: Sink>(page: &mut Page, sink: &mut K, bytes: &Pieces)
+    ensures { Prints (output (K.taken sink.old) (K.faults sink.old) page.old) (output (K.taken sink.new) (K.faults sink.new) page.new) (encode_lower bytes.now) }
 {
-    for piece in pieces {
-        page.put_hex(sink, piece.as_slice());
+    let mut walk = bytes.walk();
+    while let Some(piece) = walk.next() {
+        page.put_hex(sink, piece);
     }
 }
 
@@ -433,7 +433,7 @@ fn print_pieces<K: Sink>(page: &mut Page, sink: &mut K, bytes: &Pieces)
     if bytes.is_empty() {
         page.put(sink, b"-");
     } else {
-        print_hex(page, sink, bytes.pieces());
+        print_hex(page, sink, bytes);
     }
 }
 

@@ -14,7 +14,7 @@ use Rattle.xet_xorb.proofs.Joining.{sum-append}
 use Rattle.xet_xorb.proofs.MetRanges.{length-joined, packed_is}
 use Rattle.xet_xorb.proofs.Offsets.{before_le}
 use Rattle.xet_xorb.proofs.Slices.{slice_range-map, take_split}
-use Rattle.xet_xorb.proofs.WholeChunks.{AreWholeChunks-unique}
+use Rattle.xet_xorb.proofs.WholeText.{AreWholeChunks-unique}
 use Rattle.xet_shard.specs.declared.listing.ChunkListing.{ChunkListing}
 use Rattle.xet_generated.specs.Terms.{Chunks}
 use Rattle.xet_generated.specs.Shards.{listed_chunk, listed_chunks}

@@ -15,7 +15,7 @@ use Rattle.xet_xorb.specs.ChunkLists.{lengths_of}
 use Rattle.xet_xorb.specs.Generated.{seeded_chunks}
 use Rattle.xet_xorb.specs.XorbBytes.{AreWholeChunks}
 use Rattle.xet_xorb.proofs.Footing.{IsXorbText-unique}
-use Rattle.xet_xorb.proofs.WholeChunks.{AreWholeChunks-unique}
+use Rattle.xet_xorb.proofs.WholeText.{AreWholeChunks-unique}
 use Rattle.xet_shard.specs.Listings.{ShardModel}
 use Rattle.xet_shard.specs.Canonical.{canonical_of}
 use Rattle.xet_shard.specs.declared.listing.Segment.{Segment}

@@ -32,6 +32,13 @@ gathered bytes skip left = record { bytes = bytes; skip = skip; left = left }
 alike : (b c : List ℕ) (s t : ℕ) (l m : Option ℕ) → b ≡ c → s ≡ t → l ≡ m → gathered b s l ≡ gathered c t m
 alike b c s t l m p q r = ap (λ (x : List ℕ). gathered x s l) p ∙ ap (λ (x : ℕ). gathered c x l) q ∙ ap (λ (x : Option ℕ). gathered c t x) r
 
+-- what is asked of one text behind another
+pub cut_parts : (left : Option ℕ) (skip : ℕ) (a b : List ℕ) → cut_to left (drop skip (a ++ b)) ≡ cut_to left (drop skip a) ++ cut_to (less left (length a - skip)) (drop (skip - length a) b)
+cut_parts left skip a b =
+    ap (λ (xs : List ℕ). cut_to left xs) (drop_over skip a b)
+    ∙ cut_over left (drop skip a) (drop (skip - length a) b)
+    ∙ ap (λ n. cut_to left (drop skip a) ++ cut_to (less left n) (drop (skip - length a) b)) (length-drop skip a)
+
 pub after_both : (g : Gathered) (a b : List ℕ) → after_text (after_text g a) b ≡ after_text g (a ++ b)
 after_both g a b =
     let long = length-append a b in
@@ -40,11 +47,7 @@ after_both g a b =
     less_twice g.left _ _ _ (let e : length a - g.skip + (length b - (g.skip - length a)) ≡ length (a ++ b) - g.skip = omega (arith, long) in e) in
     let bytes : (g.bytes ++ cut_to g.left (drop g.skip a)) ++ cut_to (less g.left (length a - g.skip)) (drop (g.skip - length a) b) ≡ g.bytes ++ cut_to g.left (drop g.skip (a ++ b)) =
     append_assoc g.bytes (cut_to g.left (drop g.skip a)) (cut_to (less g.left (length a - g.skip)) (drop (g.skip - length a) b))
-    ∙ ap (λ (xs : List ℕ). g.bytes ++ xs) (sym (
-    ap (λ (xs : List ℕ). cut_to g.left xs) (drop_over g.skip a b)
-    ∙ cut_over g.left (drop g.skip a) (drop (g.skip - length a) b)
-    ∙ ap (λ n. cut_to g.left (drop g.skip a) ++ cut_to (less g.left n) (drop (g.skip - length a) b)) (length-drop g.skip a)
-    )) in
+    ∙ ap (λ (xs : List ℕ). g.bytes ++ xs) (sym (cut_parts g.left g.skip a b)) in
     alike _ _ _ _ _ _ bytes skip left
 
 cut_none : (left : Option ℕ) → cut_to left [] ≡ []

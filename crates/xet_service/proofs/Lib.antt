@@ -19,6 +19,7 @@ pub mod Left
 pub mod Stepping
 pub mod Keeping
 pub mod Holders
+pub mod Windows
 pub mod Opening
 pub mod Fetching
 pub mod Determining

@@ -4,7 +4,7 @@ use Rattle.xet_types.specs.declared.record.XorbRangeDescriptor.{XorbRangeDescrip
 use Rattle.xet_types.specs.declared.error.Refusal.{Refusal}
 use Rattle.xet_types.specs.declared.error.Refusal.TheVariants.{FormatError, Other}
 use Rattle.xet_types.specs.declared.error.FormatFault.TheVariants as faults
-use Rattle.xet_xorb.proofs.WholeChunks.{AreWholeChunks-unique}
+use Rattle.xet_xorb.proofs.WholeText.{AreWholeChunks-unique}
 use Rattle.xet_store.specs.StoreModel.{Chunks}
 use Rattle.xet_service.specs.declared.reader.held.HeldTerm.{HeldTerm}
 use Rattle.xet_service.specs.declared.reader.link.ReadLink.{ReadLink}

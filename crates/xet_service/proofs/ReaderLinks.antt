@@ -1,15 +1,18 @@
 -- A reader's links by number.
-use Rattle.std.proofs.Common.{◌≡◌, ℕ, zero, suc, ◌+◌, ◌-◌, ◌<◌, ◌≤◌, Bool, true, false, cond, List, [], ◌∷◌, length, drop, get_or, set, Option, Some, None, Ok, refl, sym, ap, subst, ◌∙◌, arith}
-use Rattle.std.specs.Prelude.{slice_get, slice_set, slice_range, is_none, is_some}
+use Rattle.std.proofs.Common.{◌≡◌, ℕ, zero, suc, ◌+◌, ◌-◌, ◌<◌, ◌≤◌, Bool, true, false, cond, List, [], ◌∷◌, length, map, sum, take, drop, get_or, set, eq-eqb, inr, Option, Some, None, Ok, refl, sym, ap, subst, ◌∙◌, arith}
+use Rattle.std.specs.Prelude.{slice_get, slice_set, slice_range, is_none, is_some, IsTrue, ◌↔◌}
 use Rattle.std.specs.List.{flat_map, concat}
-use Rattle.std.proofs.lemmas.List.{append-nil, take_all}
-use Rattle.std.proofs.lemmas.List.Sums.{sum_by-set}
+use Rattle.std.proofs.lemmas.List.{append-nil, length-append, take_all}
+use Rattle.std.proofs.lemmas.List.Sums.{sum_by-cons, sum_by-set}
+use Rattle.xet_xorb.specs.XorbBytes.{AreWholeChunks}
 use Rattle.xet_store.specs.StoreModel.{Chunks}
 use Rattle.xet_store.specs.Plans.{cut_to}
+use Rattle.xet_types.specs.declared.record.XorbRangeDescriptor.{XorbRangeDescriptor}
 use Rattle.xet_service.specs.declared.reader.held.HeldTerm.{HeldTerm}
 use Rattle.xet_service.specs.declared.reader.link.ReadLink.{ReadLink}
-use Rattle.xet_service.specs.Reading.{Reading, if_left, left_link, is_link_left, left_one, count_left, with_got, take_link, nth_chunks, got_of_link, got_for, cut_of_range, held_text, BringsTo, Gives}
-use Rattle.xet_service.specs.ReadingParts.{TakesAll, IsWhole}
+use Rattle.xet_service.specs.Reading.{Reading, if_left, left_link, is_link_left, left_one, count_left, with_got, take_link, nth_chunks, got_of_link, got_for, cut_of_range, held_text, has_length, have_counts, have_lengths, fits, AreSized, IsMultipart, Spells, BringsTo, Gives}
+use Rattle.xet_service.specs.Gathering.{IsWindow}
+use Rattle.xet_service.specs.ReadingParts.{TakesAll, BringsAlone, ReadsAtOnce}
 
 get_below : {X : Type 0} (xs : List X) (i : ℕ) (x : X) → slice_get xs i ≡ Some x → i < length xs
 get_below [] i x e = absurd cc
@@ -135,13 +138,9 @@ one_item [] h e is = absurd (omega (arith, e))
 one_item (x ∷ []) h e is = ap (λ (y : HeldTerm). y ∷ []) (sym is)
 one_item (x ∷ (y ∷ xs)) h e is = absurd (omega (arith, e))
 
-pub none_by : (o : Option ℕ) (b : Bool) → b ≡ is_some o → b ≡ false → o ≡ None
-none_by None b is e = refl
-none_by (Some k) b is e = absurd cc
-
--- the read of a term that has all chunks of a link's first range
-pub whole_read : (r : Reading) (n : ℕ) (got : List Chunks) (h : HeldTerm) → r.terms ≡ h ∷ [] → r.offset ≡ 0 → r.length ≡ None → is_link_left r.links n ≡ true → TakesAll h n (length (nth_chunks got 0)) → IsWhole (take_link r n got) got
-whole_read r n got h terms offset none left all =
+-- the text of a term that has all chunks of a link's first range
+whole_text : (r : Reading) (n : ℕ) (got : List Chunks) (h : HeldTerm) → r.terms ≡ h ∷ [] → is_link_left r.links n ≡ true → TakesAll h n (length (nth_chunks got 0)) → flat_map (held_text (take_link r n got).links) r.terms ≡ concat (nth_chunks got 0)
+whole_text r n got h terms left all =
     let at = left_here r.links n left in
     let filled = with_got r.links n (slice_get r.links n) got in
     let brought : got_for filled h ≡ nth_chunks got 0 =
@@ -151,8 +150,51 @@ whole_read r n got h terms offset none left all =
     let first : h.term.range.start - h.range.chunks.start ≡ 0 = omega (arith, all.1.1.0) in
     let cut : cut_of_range h (got_for filled h) ≡ nth_chunks got 0 =
     ap (λ (cs : Chunks). cut_of_range h cs) brought ∙ all_of (nth_chunks got 0) (h.term.range.start - h.range.chunks.start) (h.term.range.end - h.range.chunks.start) first all.1.1.1 in
-    ap (λ (l : Option ℕ). cut_to l (drop r.offset (flat_map (held_text filled) r.terms))) none
-    ∙ ap (λ (k : ℕ). drop k (flat_map (held_text filled) r.terms)) offset
-    ∙ ap (λ (hs : List HeldTerm). flat_map (held_text filled) hs) terms
+    ap (λ (hs : List HeldTerm). flat_map (held_text filled) hs) terms
     ∙ append-nil (held_text filled h)
     ∙ ap (λ (cs : Chunks). concat cs) cut
+
+-- such a read, whose link takes a body of one part
+pub reads_at_once : (r : Reading) (n : ℕ) (content_type body : List ℕ) (h : HeldTerm) (l : ReadLink) (chunks : Chunks) (total skip left : ℕ) (bytes : List ℕ) → r.terms ≡ h ∷ [] → h.range.link ≡ n → left_link r.links n ≡ Some l → (IsMultipart content_type → ⊥)
+    → BringsAlone l h body chunks total → IsWindow total r.offset r.length (skip, left) → bytes ≡ take left (drop skip (concat chunks)) → ReadsAtOnce r n content_type body bytes
+reads_at_once r n content_type body h l chunks total skip left bytes terms number link plain brings window is =
+    let got : List Chunks = chunks ∷ [] in
+    let spells : Spells l content_type body got = record {
+      parts = body ∷ [];
+      has = record { cut = inr (plain, refl); sized = brings.brings.0 };
+      whole = brings.brings.1.0;
+      fit = brings.brings.1.1;
+    } in
+    let text = whole_text r n got h terms (ap is_some link) (number, brings.all.1) in
+    record {
+      got = got;
+      gives = subst (λ (o : Option ReadLink). BringsTo o content_type body (Ok got)) (sym link) spells;
+      read = is ∙ window (concat chunks) brings.long ∙ ap (λ (t : List ℕ). cut_to r.length (drop r.offset t)) (sym text);
+    }
+
+-- the only range of a link, which its only term has all of, and as many chunks with as many bytes as these say
+fits_alone : (l : ReadLink) (d : XorbRangeDescriptor) (h : HeldTerm) (chunks : Chunks) → l.ranges ≡ d ∷ [] → l.held ≡ h ∷ [] → h.range.number ≡ 0 → h.term.range.start ≤ h.range.chunks.start → length chunks ≤ h.term.range.end - h.range.chunks.start
+    → length chunks ≡ d.chunks.end - d.chunks.start → sum (map length chunks) ≡ h.term.unpacked_length → fits l.ranges l.held (chunks ∷ []) ≡ true
+fits_alone l d h chunks ranges held number front back count bytes =
+    let first : h.term.range.start - h.range.chunks.start ≡ 0 = omega (arith, front) in
+    let cut : cut_of_range h (nth_chunks (chunks ∷ []) h.range.number) ≡ chunks =
+    ap (λ (k : ℕ). cut_of_range h (nth_chunks (chunks ∷ []) k)) number ∙ all_of chunks (h.term.range.start - h.range.chunks.start) (h.term.range.end - h.range.chunks.start) first back in
+    let long : has_length (nth_chunks (chunks ∷ []) h.range.number) h ≡ true = eq-eqb _ _ (ap (λ (cs : Chunks). sum (map length cs)) cut ∙ bytes) in
+    let counts : have_counts (d ∷ []) (chunks ∷ []) ≡ true = rw (eq-eqb _ _ count) refl in
+    let lengths : have_lengths (chunks ∷ []) (h ∷ []) ≡ true = rw long refl in
+    ap (λ (ds : List XorbRangeDescriptor). fits ds l.held (chunks ∷ [])) ranges ∙ ap (λ (hs : List HeldTerm). fits (d ∷ []) hs (chunks ∷ [])) held ∙ rw (counts, lengths) refl
+
+pub concat_long : (xs : Chunks) → length (concat xs) ≡ sum (map length xs)
+concat_long [] = refl
+concat_long (x ∷ xs) = omega (arith, length-append x (concat xs), concat_long xs, sum_by-cons (λ (n : ℕ). n) (length x) (map length xs))
+
+pub brings_alone : (l : ReadLink) (d : XorbRangeDescriptor) (own other : HeldTerm) (body : List ℕ) (chunks : Chunks) (count : ℕ) → l.ranges ≡ d ∷ [] → l.held ≡ own ∷ [] → count ≡ d.chunks.end - d.chunks.start → TakesAll own own.range.link count → TakesAll other other.range.link count
+    → AreSized l.ranges (body ∷ []) → AreWholeChunks body chunks → (length chunks ≡ count) × (sum (map length chunks) ≡ own.term.unpacked_length) → BringsAlone l other body chunks own.term.unpacked_length
+brings_alone l d own other body chunks count ranges held count_is mine all sized whole sizes = record {
+  all = subst (TakesAll other other.range.link) (sym sizes.0) all;
+  brings = (sized, ((whole, tt), fits_alone l d own chunks ranges held mine.1.0 mine.1.1.0 (omega (arith, sizes.0, mine.1.1.1)) (sizes.0 ∙ count_is) sizes.1));
+  long = concat_long chunks ∙ sizes.1;
+}
+
+pub multipart_not : (content_type : List ℕ) (b : Bool) → (IsTrue b ↔ IsMultipart content_type) → b ≡ false → IsMultipart content_type → ⊥
+multipart_not content_type b is plain parts = let e : b ≡ true = is.1 parts in absurd cc

@@ -124,13 +124,13 @@ module _ (old : Reads) (read link : ℕ) (body : Body) (held : OpenRead) (there 
         of zero e = absurd (omega (arith, some, e))
         of (suc k) e = rw (e, wire_is, note_is, put_it) refl
 
-    pub last_takes : (left : ℕ) (bytes : List ℕ) (wire : ℕ) (note : CacheNote) (closed : Reads) → left ≡ count_left held.reader.links - 1 → left ≤ 0 → bytes ≡ bytes_read (take_link held.reader link got) → wire ≡ length body.bytes → note ≡ no_note → closed ≡ remove old read
-        → TakesAt old read link body (Ok (Finished read bytes wire note)) closed
-    last_takes left bytes wire note closed left_is none bytes_is wire_is note_is gone =
+    pub last_takes : (left : ℕ) (bytes : List ℕ) (wire : ℕ) (reply : Reply) (closed : Reads) → left ≡ count_left held.reader.links - 1 → left ≤ 0 → bytes ≡ bytes_read (take_link held.reader link got) → wire ≡ length body.bytes → reply ≡ Finished read bytes wire no_note → closed ≡ remove old read
+        → TakesAt old read link body (Ok reply) closed
+    last_takes left bytes wire reply closed left_is none bytes_is wire_is reply_is gone =
         (held, (sym there, record { answer = Ok tt; after = take_link held.reader link got; accepts = (got, (gives, refl)); step = of (count_left (take_link held.reader link got).links) (omega (arith, fewer, left_is, none)) }))
       where
-        of : (k : ℕ) → k ≡ 0 → fetch_done old read link (length body.bytes) (with_reader held (take_link held.reader link got)) k ≡ (Ok (Finished read bytes wire note), closed)
-        of zero e = rw (bytes_is, wire_is, note_is, gone) refl
+        of : (k : ℕ) → k ≡ 0 → fetch_done old read link (length body.bytes) (with_reader held (take_link held.reader link got)) k ≡ (Ok reply, closed)
+        of zero e = rw (reply_is, bytes_is, wire_is, gone) refl
         of (suc k) e = absurd (omega (arith, e))
 
 pub left_is : (reads : Reads) (read left : ℕ) (held : OpenRead) → Some held ≡ get reads read → IsWantedAt reads read left → left ≡ count_left held.reader.links - 1

@@ -18,3 +18,5 @@ pub mod ReadingSteps
 pub mod Gathering
 pub mod ReadingParts
 pub mod Readable
+pub mod PieceWalks
+pub mod PieceForms

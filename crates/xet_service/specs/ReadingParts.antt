@@ -9,7 +9,7 @@ use Rattle.xet_store.specs.StoreModel.{Chunks}
 use Rattle.xet_wire.specs.Multipart.{Part}
 use Rattle.xet_service.specs.declared.reader.held.HeldTerm.{HeldTerm}
 use Rattle.xet_service.specs.declared.reader.link.ReadLink.{ReadLink}
-use Rattle.xet_service.specs.Reading.{Reading, bytes_in, fits, nth_chunks, bytes_read, IsReadInParts, AreSized, AreAllWhole}
+use Rattle.xet_service.specs.Reading.{Reading, bytes_in, fits, Gives, take_link, bytes_read, IsReadInParts, AreSized, AreAllWhole}
 
 -- the part is of the range's bytes
 abbrev pub is_of : XorbRangeDescriptor → Part → Bool
@@ -53,6 +53,14 @@ BringsCut link parts (Err why) = ⊥
 abbrev pub TakesAll : HeldTerm → ℕ → ℕ → Type 0
 TakesAll h link count = (h.range.link ≡ link) × ((h.range.number ≡ 0) × ((h.term.range.start ≤ h.range.chunks.start) × (count ≤ h.term.range.end - h.range.chunks.start)))
 
--- what is read are the chunks that one range brought
-abbrev pub IsWhole : Reading → List Chunks → Type 0
-IsWhole r got = bytes_read r ≡ concat (nth_chunks got 0)
+-- the link has one range, all of whose chunks the other term has, and the body is these chunks, with so many bytes
+pub record BringsAlone (link : ReadLink) (other : HeldTerm) (body : List ℕ) (chunks : Chunks) (total : ℕ) : Type 0 where
+  pub all : TakesAll other other.range.link (length chunks)
+  pub brings : BringsCut link (body ∷ []) (Ok (chunks ∷ []))
+  pub long : length (concat chunks) ≡ total
+
+-- what is read, where the link of this number takes the body
+pub record ReadsAtOnce (r : Reading) (n : ℕ) (content_type body text : List ℕ) : Type 0 where
+  pub got : List Chunks
+  pub gives : Gives r.links n content_type body (Ok got)
+  pub read : text ≡ bytes_read (take_link r n got)

@@ -13,7 +13,7 @@ pub mod step;
 pub mod text;
 
 pub use body::{TermBody, fetch_term_body};
-pub use pieces::Pieces;
+pub use pieces::{Pieces, Walk};
 pub use reader::Reader;
 pub use reply::{CacheNote, CacheRefusal, PlannedLink, Reply};
 pub use run::run_steps;

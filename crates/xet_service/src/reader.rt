@@ -1,10 +1,10 @@
 //! Open reads as clients have them.
-ghost use Rattle.std.specs.Prelude.{◌≡◌, ℕ, ◌++◌, ◌<◌, true, nat_le, length, IfOk, OnOk, IsTrue, ⊤};
+ghost use Rattle.std.specs.Prelude.{◌≡◌, ℕ, ◌++◌, ◌<◌, true, nat_le, length, IfOk, IfSome, OnOk, IsTrue, ⊤};
 ghost use Rattle.std.specs.List.{flat_map};
 ghost use Rattle.xet_store.specs.Answered.{Answered};
 ghost use Rattle.std.specs.Option.{option_copied};
 ghost use Rattle.xet_service.specs.Reading.{Reading, left_link, is_link_left, count_left, take_link, Gives, Accepts, held_text, bytes_read};
-ghost use Rattle.xet_service.specs.ReadingParts.{IsWhole};
+ghost use Rattle.xet_service.specs.ReadingParts.{ReadsAtOnce};
 ghost use Rattle.xet_service.specs.ReadingPlans.{total_of, Opens, OpensLinks};
 ghost use Rattle.xet_service.specs.Links.{answer_of};
 ghost use Rattle.xet_service.specs.Gathering.{after_text};
@@ -21,13 +21,12 @@ use crate::links::most_runs;
 use crate::pieces::Pieces;
 use crate::step::PlanVersion;
 use bytes::Bytes;
-use filled::{Filled, first_chunks, takes_all};
+use filled::Filled;
 use gather::Gathering;
 use held::{HeldTerm, all_ranges, held_terms};
-use join::{asked_length, cut, push_chunks};
-use link::{
-    ReadLink, all_apart, count_left, fresh_groups, fresh_links, give_terms, nth_chunks, put_got,
-};
+use join::{asked_length, cut, push_chunks, window};
+use link::{ReadLink, all_apart, count_left, fresh_groups, fresh_links, give_terms, only, put_got};
+use parts::is_multipart;
 use std::alloc::Global;
 use std::marker::Model;
 use xet_plan::Plan;
@@ -258,25 +257,25 @@ impl Reader {
         Ok(gathering.into_pieces())
     }
 
-    /// Whether the read is of all chunks of the only range of a link, which are no smaller than their holders.
-    fn is_whole(&self, link: usize, got: &[Items<Bytes>]) -> bool
-        requires { is_link_left self.now.links link ≡ true }
-        ensures { IsTrue result → IsWhole (take_link self.now link got.now) got.now }
+    /// What [`Reader::finish`] answers once a link that is left has taken this body, where the read is of one term that has all chunks
+    /// of the link's only range. It is kept as it lies in the body, which is not copied. None for other reads, and for bodies that
+    /// [`Reader::accept`] refuses. Takes no memory.
+    pub(crate) fn at_once(&self, link: usize, content_type: &str, body: &Bytes) -> Option<Pieces>
+        ensures { IfSome result (λ bytes. ReadsAtOnce self.now link content_type.now body.now bytes) }
     {
-        let [held] = self.terms.as_slice() else {
-            return false;
+        let held = only(self.terms.as_slice())?;
+        if held.range.link != link {
+            return None;
+        }
+        if is_multipart(content_type) {
+            return None;
+        }
+        let wanted = self.left_link(link)?;
+        let Some((chunks, total)) = wanted.read_alone(held, body) else {
+            return None;
         };
-        let chunks = nth_chunks(got, 0);
-        if self.offset > 0 {
-            return false;
-        }
-        if self.length.is_some() {
-            return false;
-        }
-        if !takes_all(held, link, chunks.len()) {
-            return false;
-        }
-        are_large(held.term.unpacked_length as usize, chunks.len())
+        let (skip, left) = window(total, self.offset, self.length);
+        Some(Pieces::from_chunks(chunks, skip, left))
     }
 
     /// What [`Reader::finish`] answers once the last link that is left has brought these chunks. They aren't copied, unless they are so
@@ -290,17 +289,14 @@ impl Reader {
         requires { is_link_left self.now.links link ≡ true }
         ensures { IfOk result (λ pieces. pieces ≡ bytes_read (take_link self.now link got)) }
     {
-        if self.is_whole(link, got.as_slice()) {
-            return Ok(Pieces::from_vec(first_chunks(alloc, got)));
-        }
         let filled = Filled::with(&self.links, link, got.as_slice());
         let count = filled.count_chunks(&self.terms);
         if are_large(room_of(&self.terms), count) {
             return self.gathered(alloc, &filled, count);
         }
-        let mut pieces = Pieces::with_capacity(alloc, 1)?;
+        let mut pieces = Vec::with_capacity(alloc, 1)?;
         pieces.push(self.copied(alloc, &filled)?)?;
-        Ok(pieces)
+        Ok(Pieces::from_vec(pieces))
     }
 }
 

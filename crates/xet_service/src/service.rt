@@ -1,6 +1,6 @@
 //! Requests of readers and writers, over a store.
 ghost use Rattle.std.specs.Prelude.{◌≡◌, ◌<◌, Some, Err, IfOk, OnErr};
-ghost use Rattle.std.specs.FinMap.{get, insert};
+ghost use Rattle.std.specs.FinMap.{get, insert, remove};
 ghost use Rattle.std.specs.FinMap as finmap;
 ghost use Rattle.xet_plan.specs.Footers.{FailsOnlyByFault};
 ghost use Rattle.xet_store.specs.StoreModel.{StoreModel};
@@ -10,7 +10,7 @@ ghost use Rattle.xet_store.specs.TermData.{is_expired};
 ghost use Rattle.xet_store.specs.Answered.{Answered};
 ghost use Rattle.xet_store.specs.Batches.{batch_at};
 ghost use Rattle.xet_store.specs.Refusals.{RefusedBy, OfPlan, OfXorbBytes, OfXorbUpload, OfShardUpload, OfGenerated};
-ghost use Rattle.xet_service.specs.declared.reply.Reply.TheVariants.{Uploaded, ShardTaken, Size, Data, Random};
+ghost use Rattle.xet_service.specs.declared.reply.Reply.TheVariants.{Uploaded, ShardTaken, Size, Data, Random, Finished};
 ghost use Rattle.xet_service.specs.declared.step.Act.TheVariants.{Fetch};
 ghost use Rattle.xet_service.specs.Bodies.{SendsStored};
 ghost use Rattle.xet_service.specs.World.{state};
@@ -395,6 +395,20 @@ fn put(
     replace(reads, read, open);
 }
 
+/// Closes an open read, and answers what it gave.
+fn finish(reads: &mut ByNumber<OpenRead>, read: u64, bytes: Pieces, wire: u64) -> Reply
+    ensures reply { result ≡ Finished read bytes wire no_note }
+    ensures closed { reads.new ≡ remove reads.old read }
+{
+    reads.remove(read);
+    Reply::Finished {
+        read,
+        bytes,
+        wire,
+        cache: no_note(),
+    }
+}
+
 /// Gives an open read the body of a link that is left, after which so many are left; the last one finishes it. A refused body
 /// changes nothing.
 fn take(
@@ -417,6 +431,11 @@ fn take(
     };
     let reader = &open.reader;
     let wire = sent.body.len() as u64;
+    if left == 0 {
+        if let Some(bytes) = reader.at_once(link as usize, sent.type_text(), &sent.body) {
+            return Ok(finish(reads, read, bytes, wire));
+        }
+    }
     let got = reader.read(alloc, link as usize, sent.type_text(), &sent.body)?;
     if left > 0 {
         put(alloc, reads, read, link as usize, got);
@@ -429,13 +448,7 @@ fn take(
         });
     }
     let bytes = reader.pieces(alloc, link as usize, got)?;
-    reads.remove(read);
-    Ok(Reply::Finished {
-        read,
-        bytes,
-        wire,
-        cache: no_note(),
-    })
+    Ok(finish(reads, read, bytes, wire))
 }
 
 impl<K: Store> ChunkService<K> {

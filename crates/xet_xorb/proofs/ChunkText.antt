@@ -23,7 +23,7 @@ and_true : (a b : Bool) → (a && b) ≡ true → (a ≡ true) × (b ≡ true)
 and_true true b e = (refl, e)
 and_true false b e = absurd cc
 
-header_field : IsField header_at header_bytes IsChunkLength
+pub header_field : IsField header_at header_bytes IsChunkLength
 header_field =
     fits_field header_at header_bytes (λ n. (Unit {0} × ((n < 2 ^ 24) × (Unit {0} × (n < 2 ^ 24)))) × (same_lengths (tt, (n, (tt, n))) ≡ true)) IsChunkLength
     (λ n h. (ltb-true 0 n (and_true (eqb n n) (ltb 0 n) h.1).1, h.0.1.0))

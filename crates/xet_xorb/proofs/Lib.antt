@@ -7,8 +7,9 @@ pub mod Footing
 pub mod Owning
 pub mod Joining
 pub mod Indices
-pub mod WholeChunks
+pub mod WholeText
 pub mod Limits
 pub mod Slices
 pub mod Generating
 pub mod MetRanges
+pub mod Walking

@@ -8,3 +8,4 @@ pub mod Footers
 pub mod Contents
 pub mod JoinedChunks
 pub mod Generated
+pub mod Walks

@@ -1,5 +1,6 @@
 //! Chunks without the rest of their xorb.
-ghost use Rattle.std.specs.Prelude.{◌≡◌};
+ghost use Rattle.std.specs.Prelude.{◌≡◌, IfErr};
+ghost use Rattle.xet_bytes.specs.declared.cursor.ReadError.TheVariants.{Malformed};
 ghost use Rattle.xet_xorb.specs.Steps.{TakesChunk};
 ghost use Rattle.xet_xorb.specs.JoinedChunks.{ReadsChunks, JoinsChunks};
 
@@ -9,8 +10,9 @@ use xet_bytes::ReadError;
 use xet_types::{ClientError, FormatFault};
 
 /// The chunk at the front, without its header, and the rest.
-fn split_chunk(content: &[u8]) -> Result<(&[u8], &[u8]), ReadError>
-    ensures { TakesChunk (λ x. x.0.now) content.now result (λ x. x.1.now) }
+pub(crate) fn split_chunk(content: &[u8]) -> Result<(&[u8], &[u8]), ReadError>
+    ensures value { TakesChunk (λ x. x.0.now) content.now result (λ x. x.1.now) }
+    ensures err { IfErr result (λ e. e ≡ Malformed) }
 {
     let length = chunk_length(content)?;
     let rest = &content[HEADER_LENGTH..];

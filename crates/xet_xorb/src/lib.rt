@@ -11,6 +11,7 @@ pub mod read;
 pub mod seeded;
 pub mod segment;
 pub mod serialized;
+pub mod whole;
 pub mod write;
 
 pub use contents::{footed_text, reconstruct_xorb_with_footer};
@@ -22,6 +23,7 @@ pub use read::{ReadXorb, read_chunks, read_xorb};
 pub use seeded::generate_serialized;
 pub use segment::append_chunk_segment;
 pub use serialized::SerializedXorbObject;
+pub use whole::{ChunkWalk, WholeChunks};
 pub use write::{with_footer, write_xorb};
 
 #[cfg(test)]

@@ -1,5 +1,6 @@
 //! Reading a xorb's bytes.
-ghost use Rattle.std.specs.Prelude.{◌≡◌, drop};
+ghost use Rattle.std.specs.Prelude.{◌≡◌, drop, IfErr};
+ghost use Rattle.xet_bytes.specs.declared.cursor.ReadError.TheVariants.{Malformed};
 ghost use Rattle.xet_bytes.specs.Reading.{Gives};
 ghost use Rattle.xet_xorb.specs.Steps.{header_at, ReadsHeader, TakesChunk, at_chunks_end, ReadsParts, ReadsWhole, TakesChunks};
 ghost use Rattle.xet_xorb.specs.XorbBytes.{ReadsXorb, ReadsWholeChunks};
@@ -36,7 +37,8 @@ struct Parts {
 
 /// Reads a header: a version, the stored length, a scheme and the plain length, which are equal and above 0.
 fn header(cursor: &mut Cursor<'_>) -> Result<u32, ReadError>
-    ensures { Gives (λ n. n) result cursor.new (header_at cursor.old) }
+    ensures value { Gives (λ n. n) result cursor.new (header_at cursor.old) }
+    ensures err { IfErr result (λ e. e ≡ Malformed) }
 {
     cursor.literal(&[0])?;
     let stored = cursor.u24()?;
@@ -50,7 +52,8 @@ fn header(cursor: &mut Cursor<'_>) -> Result<u32, ReadError>
 
 /// The length in bytes of the chunk whose header the bytes begin with.
 pub(crate) fn chunk_length(content: &[u8]) -> Result<usize, ReadError>
-    ensures { ReadsHeader content.now result }
+    ensures value { ReadsHeader content.now result }
+    ensures err { IfErr result (λ e. e ≡ Malformed) }
 {
     let mut cursor = Cursor::new(content);
     let length = header(&mut cursor)?;

@@ -24,6 +24,17 @@ fn check_hash(rt: &impl Abort, hash: MerkleHash, text: &str) {
     assert!(rt; MerkleHash::from_hex(text) == Ok(hash), "{text}");
 }
 
+fn check_walk(rt: &impl Abort, whole: Option<WholeChunks>, chunks: &[Bytes]) {
+    let Some(whole) = whole else {
+        panic!(rt; "no whole chunks");
+    };
+    let mut walk = whole.walk();
+    for chunk in chunks {
+        assert!(rt; walk.next() == Some(chunk.as_slice()));
+    }
+    assert!(rt; walk.next().is_none());
+}
+
 fn is_malformed<T>(outcome: &Result<T, ClientError>) -> bool {
     matches!(outcome, Err(ClientError::FormatError(FormatFault::Xorb)))
 }
@@ -57,6 +68,7 @@ fn writes_and_reads_back(rt: HostRuntime) -> Result<(), Fail> {
         assert!(rt; read.chunks.as_slice() == chunks.as_slice());
         let alone = read_chunks(alloc, &written.slice(..body)?)?;
         assert!(rt; alone.as_slice() == chunks.as_slice());
+        check_walk(&rt, WholeChunks::from_text(written.slice(..body)?), &chunks);
         assert!(rt; !read.has_footer);
         check_hash(&rt, read.object.xorb_hash(), name);
         assert_eq!(rt; read.object.serialized_length() as usize, length);
@@ -209,6 +221,8 @@ fn refuses_other_bytes(rt: HostRuntime) -> Result<(), Fail> {
         assert!(rt; is_malformed(&joined));
         let chunks = read_chunks(alloc, &Bytes::copy_from_slice(alloc, text)?);
         assert!(rt; is_malformed(&chunks));
+        let whole = WholeChunks::from_text(Bytes::copy_from_slice(alloc, text)?);
+        assert!(rt; whole.is_none());
     }
     assert!(rt; is_malformed(&write_xorb(alloc, &[])));
     assert!(rt; is_malformed(&write_xorb(alloc, &chunks_of(alloc, &[b"abc", b""])?)));

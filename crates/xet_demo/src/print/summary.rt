@@ -1,12 +1,10 @@
 //! What a large run prints of its replies: how many there are, and their lengths summed.
 ghost use Rattle.std.specs.Prelude.{◌≡◌, sum_by, length};
-ghost use Rattle.std.specs.List.{concat};
 ghost use Rattle.xet_demo.specs.Pages.{Prints, output};
 ghost use Rattle.xet_demo.specs.Summaries.{stored_files, finished_reads, finished_bytes, wire_of, capped, count_line, summary_text};
 
 use super::page::Page;
-use bytes::Bytes;
-use xet_service::Reply;
+use xet_service::{Pieces, Reply};
 use xet_types::Sink;
 
 /// How many generated files were stored: 1 or 0.
@@ -30,11 +28,12 @@ fn finished_reads(reply: &Reply) -> u64
 }
 
 /// How many bytes pieces have, at most 2^64 - 1.
-fn length_of(pieces: &[Bytes]) -> u64
-    ensures { result ≡ capped (length (concat pieces.now)) }
+fn length_of(bytes: &Pieces) -> u64
+    ensures { result ≡ capped (length bytes.now) }
 {
     let mut length = 0u64;
-    for piece in pieces {
+    let mut walk = bytes.walk();
+    while let Some(piece) = walk.next() {
         length = length.saturating_add(piece.len() as u64);
     }
     length
@@ -45,7 +44,7 @@ fn finished_bytes(reply: &Reply) -> u64
     ensures { result ≡ capped (finished_bytes reply.now) }
 {
     match reply {
-        Reply::Finished { bytes, .. } => length_of(bytes.pieces()),
+        Reply::Finished { bytes, .. } => length_of(bytes),
         _ => 0,
     }
 }

@@ -97,12 +97,12 @@ fn replies(alloc: Global) -> Result<Vec<Reply>, Fail> {
         wire: 11,
         cache: note,
     })?;
-    let mut bytes = Pieces::new(alloc);
-    bytes.push(Bytes::from_vec(Vec::from_slice(alloc, b"ab")?)?)?;
-    bytes.push(Bytes::from_vec(Vec::from_slice(alloc, b"c\xff")?)?)?;
+    let mut pieces = Vec::new(alloc);
+    pieces.push(Bytes::from_vec(Vec::from_slice(alloc, b"ab")?)?)?;
+    pieces.push(Bytes::from_vec(Vec::from_slice(alloc, b"c\xff")?)?)?;
     all.push(Reply::Finished {
         read: 0,
-        bytes,
+        bytes: Pieces::from_vec(pieces),
         wire: 0,
         cache: CacheNote {
             hits: 0,

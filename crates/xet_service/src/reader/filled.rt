@@ -99,13 +99,3 @@ pub fn takes_all(held: &HeldTerm, link: usize, chunks: usize) -> bool
         && held.term.range.start <= first
         && last as usize >= chunks
 }
-
-/// The chunks of the first range, none where there is no range.
-pub fn first_chunks(alloc: Global, got: Items<Items<Bytes>>) -> Vec<Bytes>
-    ensures { result.items ≡ nth_chunks got 0 }
-{
-    match got.into_vec().into_iter().next() {
-        Some(chunks) => chunks.into_vec(),
-        None => Vec::new(alloc),
-    }
-}

@@ -1,5 +1,5 @@
 //! The asked bytes, gathered of chunks that come one behind the other.
-ghost use Rattle.std.specs.Prelude.{◌≡◌, IfOk, OnOk};
+ghost use Rattle.std.specs.Prelude.{◌≡◌, ◌++◌, IfOk, OnOk};
 ghost use Rattle.std.specs.List.{concat};
 ghost use Rattle.xet_service.specs.Gathering.{after_text, less, nothing};
 
@@ -13,7 +13,7 @@ use xet_types::OutOfMemory;
 /// What was gathered so far, as further holders of the chunks.
 #[derive(Drop)]
 pub struct Gathering {
-    pieces: Pieces,
+    pieces: Vec<Bytes>,
     /// How many of the bytes that come aren't asked.
     skip: u64,
     /// How many of those behind them are asked; all where there is none.
@@ -21,11 +21,12 @@ pub struct Gathering {
 }
 
 impl Model for Gathering {
+    ghost use Rattle.std.specs.List.{concat};
     ghost use Rattle.xet_service.specs.Gathering.{Gathered};
 
     ghost Value = { Gathered };
 
-    ghost view = { λ g. record { bytes = g.pieces; skip = g.skip; left = g.left } };
+    ghost view = { λ g. record { bytes = concat g.pieces.items; skip = g.skip; left = g.left } };
 }
 
 /// So many less, where a number is given.
@@ -49,17 +50,28 @@ impl Gathering {
         ensures { IfOk result (λ g. g ≡ nothing skip left) }
     {
         Ok(Gathering {
-            pieces: Pieces::with_capacity(alloc, room)?,
+            pieces: Vec::with_capacity(alloc, room)?,
             skip,
             left,
         })
+    }
+
+    /// Adds a piece; one without bytes takes no place.
+    #[tactic(auto, using(bytes::proofs::Chunks::concat_push))]
+    fn push_part(&mut self, part: Bytes) -> Result<(), OutOfMemory>
+        ensures { OnOk result (self.new ≡ record self.old { bytes = self.old.bytes ++ part }) }
+    {
+        if !part.is_empty() {
+            self.pieces.push(part)?;
+        }
+        Ok(())
     }
 
     /// Takes what is asked of a chunk, which isn't copied.
     fn push(&mut self, chunk: &Bytes) -> Result<(), OutOfMemory>
         ensures { OnOk result (self.new ≡ after_text self.old chunk.now) }
     {
-        self.pieces.push(cut(chunk, self.skip, self.left)?)?;
+        self.push_part(cut(chunk, self.skip, self.left)?)?;
         let length = chunk.len() as u64;
         self.left = less(self.left, length.saturating_sub(self.skip));
         self.skip = self.skip.saturating_sub(length);
@@ -80,6 +92,6 @@ impl Gathering {
     pub fn into_pieces(self) -> Pieces
         ensures { result ≡ self.bytes }
     {
-        self.pieces
+        Pieces::from_vec(self.pieces)
     }
 }

@@ -2,6 +2,7 @@
 ghost use Rattle.std.specs.Prelude.{◌≡◌, ◌++◌, drop, slice_range, IfOk, OnOk};
 ghost use Rattle.std.specs.List.{concat};
 ghost use Rattle.xet_store.specs.Plans.{cut_to, length_asked};
+ghost use Rattle.xet_service.specs.Gathering.{taken, IsWindow};
 
 use bytes::Bytes;
 use xet_types::{FileRange, OutOfMemory};
@@ -46,4 +47,23 @@ pub fn cut(bytes: &Bytes, offset: u64, length: Option<u64>) -> Result<Bytes, Out
         Some(length) => (length as usize).min(rest),
     };
     Ok(bytes.slice(start..start + count)?)
+}
+
+/// How many of the bytes that are left are taken, where a length is given; else all.
+fn taken(rest: u64, length: Option<u64>) -> u64
+    ensures { result ≡ taken rest length }
+{
+    match length {
+        None => rest,
+        Some(length) => length.min(rest),
+    }
+}
+
+/// How many of so many bytes are passed over, and how many are taken then, for an offset and a length, where one is given.
+pub fn window(total: u32, offset: u64, length: Option<u64>) -> (u32, u32)
+    ensures { IsWindow total offset length result }
+{
+    let skip = offset.min(u64::from(total));
+    let rest = u64::from(total) - skip;
+    (skip as u32, taken(rest, length) as u32)
 }

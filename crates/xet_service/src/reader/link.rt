@@ -1,15 +1,16 @@
 //! The links of a reader, and what their bodies bring.
-ghost use Rattle.std.specs.Prelude.{◌≡◌, ◌↔◌, ◌++◌, ◌<◌, map, length, sum, IfOk, OnOk, IsTrue, slice_get, ⊤};
+ghost use Rattle.std.specs.Prelude.{◌≡◌, ◌-◌, ◌↔◌, [], ◌∷◌, ◌++◌, ◌<◌, map, length, sum, IfOk, IfSome, OnOk, IsTrue, slice_get, ⊤};
 ghost use Rattle.std.specs.List.{flat_map};
 ghost use Rattle.xet_types.specs.RecordMaps.{listed};
 ghost use Rattle.xet_plan.specs.Merging.{ranges_shown};
 ghost use Rattle.xet_store.specs.Answered.{Answered};
 ghost use Rattle.xet_service.specs.Reading.{count_left, with_got, cut_of_range, has_length, nth_chunks, have_lengths, have_counts, fits, Brings};
 ghost use Rattle.xet_service.specs.ReadingPlans.{fresh_link, xorb_links, fresh_links, are_apart, all_apart, with_terms};
-ghost use Rattle.xet_service.specs.ReadingParts.{BringsCut};
+ghost use Rattle.xet_service.specs.ReadingParts.{BringsCut, BringsAlone};
 ghost use Rattle.xet_service.specs.ReadingSteps.{give_term};
 ghost use Rattle.xet_service.specs.RunLinks.{fresh_group, fresh_groups};
 
+use super::filled::takes_all;
 use super::held::HeldTerm;
 use super::join::part;
 use super::parts::{are_sized, is_multipart, read_parts, split, unlike};
@@ -23,6 +24,7 @@ use xet_types::{
     ClientError, FormatFault, HexMerkleHash, Items, MerkleHash, OutOfMemory, XorbMultiRangeFetch,
     XorbRangeDescriptor,
 };
+use xet_xorb::WholeChunks;
 
 /// A link of a reader.
 #[derive(Debug, Drop)]
@@ -35,6 +37,16 @@ pub struct ReadLink {
     pub held: Items<HeldTerm>,
     /// The chunks of each range, none while the link is left.
     pub got: Option<Items<Items<Bytes>>>,
+}
+
+/// The one item of a list; none where there isn't just one.
+pub fn only<T>(items: &[T]) -> Option<&T>
+    ensures { IfSome result (λ item. items.now ≡ item.now ∷ []) }
+{
+    match items {
+        [item] => Some(item),
+        _ => None,
+    }
 }
 
 /// A link that is left.
@@ -253,6 +265,13 @@ fn have_lengths(got: &[Items<Bytes>], terms: &[HeldTerm]) -> bool
     true
 }
 
+/// How many chunks a range has.
+pub fn count_of(range: &XorbRangeDescriptor) -> usize
+    ensures { result ≡ range.now.chunks.end - range.now.chunks.start }
+{
+    range.chunks.end.saturating_sub(range.chunks.start) as usize
+}
+
 /// Whether each range has its number of chunks.
 fn have_counts(ranges: &[XorbRangeDescriptor], got: &[Items<Bytes>]) -> bool
     ensures { result ≡ have_counts ranges.now got.now }
@@ -262,13 +281,29 @@ fn have_counts(ranges: &[XorbRangeDescriptor], got: &[Items<Bytes>]) -> bool
         let Some((chunks, others)) = rest.split_first() else {
             return false;
         };
-        let count = range.chunks.end.saturating_sub(range.chunks.start);
-        if chunks.len() != count as usize {
+        if chunks.len() != count_of(range) {
             return false;
         }
         rest = others;
     }
     rest.is_empty()
+}
+
+/// Whether there are so many chunks, with so many bytes together.
+fn have_sizes(chunks: &WholeChunks, count: usize, bytes: u32) -> bool
+    ensures { IsTrue result → (length chunks.now ≡ count) × (sum (map length chunks.now) ≡ bytes) }
+{
+    let mut count = count;
+    let mut bytes = bytes as usize;
+    let mut walk = chunks.walk();
+    while let Some(chunk) = walk.next() {
+        if count == 0 || chunk.len() > bytes {
+            return false;
+        }
+        count -= 1;
+        bytes -= chunk.len();
+    }
+    count == 0 && bytes == 0
 }
 
 /// Whether each range has its number of chunks, and those of each term have the term's length.
@@ -292,6 +327,31 @@ impl ReadLink {
             return Err(ClientError::FormatError(FormatFault::Body));
         }
         Ok(got)
+    }
+
+    /// The chunks of the link's only range, all of which its only term has and another one, where the body is these, and how many bytes they
+    /// hold. They aren't copied. None for other links, and for bodies that aren't the link's. Takes no memory.
+    pub fn read_alone(&self, other: &HeldTerm, body: &Bytes) -> Option<(WholeChunks, u32)>
+        ensures { IfSome result (λ p. BringsAlone self.now other.now body.now p.0 p.1) }
+    {
+        let range = only(self.ranges.as_slice())?;
+        let own = only(self.held.as_slice())?;
+        let count = count_of(range);
+        if !takes_all(own, own.range.link, count) || !takes_all(other, other.range.link, count) {
+            return None;
+        }
+        if !are_sized(self.ranges.as_slice(), slice::from_ref(body)) {
+            return None;
+        }
+        let Ok(text) = body.clone() else {
+            return None;
+        };
+        let chunks = WholeChunks::from_text(text)?;
+        let total = own.term.unpacked_length;
+        if !have_sizes(&chunks, count, total) {
+            return None;
+        }
+        Some((chunks, total))
     }
 
     /// The chunks of each range that a body spells. Refused as [`super::Reader::accept`] refuses it where the link is left.

@@ -1,7 +1,7 @@
 use Rattle.std.proofs.Common.{◌≡◌, eqb, true, false, length, List, ℕ, ap}
 use Rattle.std.proofs.lemmas.Result.{err_from_is_err_and}
 use Rattle.xet_xorb.proofs.ChunkText.{some_left, none_left}
-use Rattle.xet_xorb.proofs.WholeChunks.{stops_by, is_empty, are_whole}
+use Rattle.xet_xorb.proofs.WholeText.{stops_by, is_empty, are_whole}
 use Rattle.xet_xorb.proofs.read.take_chunks.Goals as goal
 
 pub returns-in_err-chunk : goal.returns-in_err-chunk

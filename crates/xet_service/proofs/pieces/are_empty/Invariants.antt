@@ -1,6 +1,0 @@
-use Rattle.std.proofs.Common.{◌≡◌, take, []}
-use Rattle.std.specs.List.{concat}
-use Rattle.xet_service.proofs.pieces.are_empty.Given as goal
-
-abbrev pub invariant-loop-piece : goal.invariant-loop-piece
-invariant-loop-piece l = concat (take l.piece-index l.pieces) ≡ []
