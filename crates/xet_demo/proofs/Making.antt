@@ -70,6 +70,9 @@ pub record HasCounted (all left : List ℕ) (count : ℕ) : Type 0 where
   pub sum : length all ≡ before + length left
   pub is : count ≡ capped before
 
+pub counts_from : (all left : List ℕ) → left ≡ all → HasCounted all left 0
+counts_from all left same = record { before = 0; sum = omega (arith, ap length same); is = omega arith }
+
 pub counts_on : (all left piece rest : List ℕ) (count next : ℕ) → HasCounted all left count → left ≡ piece ++ rest → next ≡ min (count + length piece) (2 ^ 64 - 1) → HasCounted all rest next
 counts_on all left piece rest count next h is next_is = record {
   before = h.before + length piece;

@@ -2,8 +2,8 @@ use Rattle.xet_demo.proofs.Printing.{HasWalked}
 use Rattle.xet_demo.specs.Pages.{output}
 use Rattle.xet_demo.proofs.print.print_hex.Given as goal
 
-abbrev pub invariant-loop-walk : goal.invariant-loop-walk
-invariant-loop-walk g l = HasWalked (output (g.K.Sink.taken l.fn.sink) (g.K.Sink.faults l.fn.sink) l.fn.page) (output (g.K.Sink.taken l.sink) (g.K.Sink.faults l.sink) l.page) l.fn.bytes.now l.walk.bytes
+abbrev pub invariant-loop-piece : goal.invariant-loop-walk
+invariant-loop-piece g l = HasWalked (output (g.K.Sink.taken l.fn.sink) (g.K.Sink.faults l.fn.sink) l.fn.page) (output (g.K.Sink.taken l.sink) (g.K.Sink.faults l.sink) l.page) l.fn.bytes l.walk.bytes
 
-abbrev pub decreases-loop-walk : goal.decreases-loop-walk
-decreases-loop-walk g l = l.walk.count
+abbrev pub decreases-loop-piece : goal.decreases-loop-walk
+decreases-loop-piece g l = l.walk.count
