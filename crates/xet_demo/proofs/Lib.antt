@@ -8,3 +8,4 @@ pub mod Making
 pub mod HexPairs
 pub mod HexBlocks
 pub mod Quiet
+pub mod RunTexts

@@ -42,3 +42,4 @@ pub mod PartsLaws
 pub mod Fetched
 pub mod Readable
 pub mod Grouped
+pub mod KeptLinks
