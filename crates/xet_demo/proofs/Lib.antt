@@ -11,3 +11,4 @@ pub mod HexLower
 pub mod Places
 pub mod AsciiParts
 pub mod Quiet
+pub mod RunTexts

@@ -1,9 +1,11 @@
 //! Replies as text.
-ghost use Rattle.std.specs.Prelude.{◌≡◌, ◌∷◌, ◌++◌, length, codes};
+ghost use Rattle.std.specs.Prelude.{◌≡◌, ◌+◌, ◌^◌, ◌<◌, ◌∷◌, ◌++◌, length, codes};
 ghost use Rattle.std.specs.Fmt.{decimal};
 ghost use Rattle.std.specs.List.{flat_map};
 ghost use Rattle.hex.specs.Hex.{encode_lower};
 ghost use Rattle.xet_wire.specs.Links.{link_text};
+ghost use Rattle.xet_service.specs.RunLinks.{run_link, run_links};
+ghost use Rattle.xet_service.specs.LinkForms.{first_links, count_runs};
 ghost use Rattle.xet_demo.specs.Pages.{Prints, output};
 ghost use Rattle.xet_demo.specs.Printed.{octets_text, truth_word, version_word, uploaded_line, shard_line, none_line, done_line, size_line, dedup_start, data_start, plan_line, term_line, terms_text, range_text, ranges_text, link_start, link_line, links_text, cache_word, note_text, fetched_start, finished_start, refusal_word, refusal_detail, refused_line, reply_text, replies_text, hashes_start, hash_line, hashes_text, files_start, entry_line, entries_text, random_line, lazy_line, batch_start, file_start, file_text, all_files_text, entry_start, xorb_entry_line, xorb_entries_text};
 ghost use Rattle.xet_demo.specs.Summaries.{report_text};
@@ -14,9 +16,12 @@ pub mod summary;
 
 use page::Page;
 use summary::print_summary;
+use xet_plan::MergedRange;
 use xet_service::{
-    CacheNote, CacheRefusal, LinkText, Pieces, PlanVersion, PlannedLink, Reply, Spelling,
+    CacheNote, CacheRefusal, LinkText, LinksForm, Pieces, PlanLinks, PlanVersion, PlannedLink,
+    Reply, Spelling,
 };
+use xet_store::descriptor;
 use xet_types::{
     FileRange, FormatFault, Items, MerkleHash, Octets, Refusal, Sink, XorbRangeDescriptor,
     XorbReconstructionTerm,
@@ -346,6 +351,84 @@ fn print_links<K: Sink>(page: &mut Page, sink: &mut K, links: &[PlannedLink])
     }
 }
 
+#[tactic(auto, unfolding(crate::specs::Printed::link_start))]
+fn print_run_start<K: Sink>(
+    page: &mut Page,
+    sink: &mut K,
+    number: usize,
+    hash: &MerkleHash,
+    bytes: &FileRange,
+    at: u64,
+)
+    ensures { Prints (output (K.taken sink.old) (K.faults sink.old) page.old) (output (K.taken sink.new) (K.faults sink.new) page.new) (link_start number (link_text hash.now bytes.now.start bytes.now.end at)) }
+{
+    page.put(sink, b"link ");
+    page.put_number(sink, number as u64);
+    page.put(sink, b" ");
+    print_first_link(page, sink, hash, bytes, at);
+    page.put(sink, b" ");
+}
+
+/// Prints the link of version 1 of a run of a xorb's chunks.
+fn print_run<K: Sink>(
+    page: &mut Page,
+    sink: &mut K,
+    number: usize,
+    hash: &MerkleHash,
+    run: &MergedRange,
+    at: u64,
+)
+    ensures { Prints (output (K.taken sink.old) (K.faults sink.old) page.old) (output (K.taken sink.new) (K.faults sink.new) page.new) (link_line number (run_link at hash.now run.now)) }
+{
+    print_run_start(page, sink, number, hash, &run.byte_range, at);
+    print_range(page, sink, b"", &descriptor(run));
+    page.put(sink, b"\n");
+}
+
+/// Prints the links of version 1 of a xorb's runs, the first of which has this number.
+fn print_runs<K: Sink>(
+    page: &mut Page,
+    sink: &mut K,
+    first: usize,
+    hash: &MerkleHash,
+    runs: &[MergedRange],
+    at: u64,
+)
+    requires { first + length runs.now < 2 ^ 64 }
+    ensures { Prints (output (K.taken sink.old) (K.faults sink.old) page.old) (output (K.taken sink.new) (K.faults sink.new) page.new) (links_text first (run_links at (hash.now, runs.now))) }
+{
+    for (i, run) in runs.iter().enumerate() {
+        print_run(page, sink, first + i, hash, run, at);
+    }
+}
+
+/// Prints the links of version 1 of the runs of xorbs.
+fn print_first_links<K: Sink>(
+    page: &mut Page,
+    sink: &mut K,
+    xorbs: &[(MerkleHash, Vec<MergedRange>)],
+    at: u64,
+)
+    requires { count_runs xorbs.now < 2 ^ 64 }
+    ensures { Prints (output (K.taken sink.old) (K.faults sink.old) page.old) (output (K.taken sink.new) (K.faults sink.new) page.new) (links_text 0 (first_links at xorbs.now)) }
+{
+    let mut number = 0usize;
+    for (hash, runs) in xorbs {
+        print_runs(page, sink, number, hash, runs, at);
+        number += runs.len();
+    }
+}
+
+/// Prints the links of a plan. Those of version 1 are made of the planner's runs.
+fn print_plan_links<K: Sink>(page: &mut Page, sink: &mut K, links: &PlanLinks)
+    ensures { Prints (output (K.taken sink.old) (K.faults sink.old) page.old) (output (K.taken sink.new) (K.faults sink.new) page.new) (links_text 0 links.now) }
+{
+    match links.form() {
+        LinksForm::Runs { at, xorbs } => print_first_links(page, sink, xorbs, *at),
+        LinksForm::Made(links) => print_links(page, sink, links.as_slice()),
+    }
+}
+
 #[tactic(auto, unfolding(crate::specs::Printed::plan_line))]
 fn print_plan_line<K: Sink>(
     page: &mut Page,
@@ -545,7 +628,7 @@ pub fn print_reply<K: Sink>(page: &mut Page, sink: &mut K, reply: &Reply)
                 links.len(),
             );
             print_terms(page, sink, terms.as_slice());
-            print_links(page, sink, links.as_slice());
+            print_plan_links(page, sink, links);
         }
         Reply::Fetched {
             read,

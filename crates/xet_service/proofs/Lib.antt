@@ -44,3 +44,4 @@ pub mod PartsLaws
 pub mod Fetched
 pub mod Readable
 pub mod Grouped
+pub mod KeptLinks

@@ -23,9 +23,13 @@ run_link at hash run = entry_link hash (fetch_info_of at hash run)
 abbrev pub group_link : ℕ → List ℕ → List MergedRange → PlannedLink
 group_link at hash runs = planned_link hash (ranges_fetch at hash runs)
 
+-- the links of version 1 of a xorb's runs: one for each
+abbrev pub run_links : ℕ → (List ℕ × List MergedRange) → List PlannedLink
+run_links at g = map (run_link at g.0) g.1
+
 -- the links of a xorb's runs: one for each, or one for each group of at most so many
 abbrev pub runs_links : PlanVersion → ℕ → ℕ → (List ℕ × List MergedRange) → List PlannedLink
-runs_links V1 max at g = map (run_link at g.0) g.1
+runs_links V1 max at g = run_links at g
 runs_links V2 max at g = map (group_link at g.0) (in_groups max g.1)
 
 -- ---- of the read

@@ -4,6 +4,7 @@
 pub mod body;
 mod links;
 pub mod pieces;
+pub mod plan_links;
 mod read;
 pub mod reader;
 pub mod reply;
@@ -14,6 +15,7 @@ pub mod text;
 
 pub use body::{TermBody, fetch_term_body};
 pub use pieces::{Pieces, Walk};
+pub use plan_links::{LinksForm, PlanLinks};
 pub use reader::Reader;
 pub use reply::{CacheNote, CacheRefusal, PlannedLink, Reply};
 pub use run::run_steps;

@@ -156,7 +156,7 @@ fn push_links(
 
 /// The links of the runs of a plan's xorbs, in its order, with the moment of the plan in milliseconds: one for each run in version 1,
 /// one for each group of at most `max` runs of a xorb in version 2.
-pub fn links_of(
+pub(crate) fn links_of(
     alloc: Global,
     version: PlanVersion,
     merged: &[(MerkleHash, Vec<MergedRange>)],

@@ -1,5 +1,6 @@
 //! What a step answers.
 use crate::pieces::Pieces;
+use crate::plan_links::PlanLinks;
 use crate::step::PlanVersion;
 use crate::text::LinkText;
 use xet_types::{Items, MerkleHash, Octets, Refusal, XorbRangeDescriptor, XorbReconstructionTerm};
@@ -59,7 +60,7 @@ pub enum Reply {
         offset: u64,
         terms: Items<XorbReconstructionTerm>,
         /// Numbered from 0.
-        links: Items<PlannedLink>,
+        links: PlanLinks,
     },
     /// A link's chunks were taken.
     Fetched {

@@ -22,6 +22,7 @@ ghost use Rattle.xet_service.specs.Requests.{OfAct, OfPlanAct, OfFetch, OfLink, 
 use crate::body::{TermBody, fetch_term_body};
 use crate::links::links_of;
 use crate::pieces::Pieces;
+use crate::plan_links::PlanLinks;
 use crate::read::OpenRead;
 use crate::reader::Reader;
 use crate::reply::{CacheNote, Reply};
@@ -339,7 +340,7 @@ impl<K> ChunkService<K> {
             return Err(ClientError::InvalidArguments);
         }
         let reader = Reader::of_plan(alloc, version, &plan, max, range)?;
-        let links = Items::from_vec(links_of(alloc, version, &plan.merged, max, at)?);
+        let links = PlanLinks::of_plan(alloc, version, plan.merged, max, at)?;
         if links.is_empty() {
             self.next = read + 1;
             return Ok(Reply::Finished {

@@ -2,10 +2,11 @@
 use super::*;
 use bytes::Bytes;
 use std::test::Fail;
-use xet_service::{CacheNote, CacheRefusal, LinkText, Pieces, PlanVersion, PlannedLink};
+use xet_plan::MergedRange;
+use xet_service::{CacheNote, CacheRefusal, LinkText, Pieces, PlanLinks, PlanVersion, PlannedLink};
 use xet_types::{
-    ChunkRange, FormatFault, HttpRange, Items, MemorySink, MemorySource, MerkleHash, Octets,
-    Refusal, XorbRangeDescriptor, XorbReconstructionTerm,
+    ChunkRange, FileRange, FormatFault, HttpRange, Items, MemorySink, MemorySource, MerkleHash,
+    Octets, Refusal, XorbRangeDescriptor, XorbReconstructionTerm,
 };
 
 /// How a call ends, as the text of its status, and how many bytes it writes.
@@ -88,7 +89,7 @@ fn replies(alloc: Global) -> Result<Vec<Reply>, Fail> {
         version: PlanVersion::V1,
         offset: 10,
         terms: Items::from_vec(terms),
-        links: Items::from_vec(links),
+        links: PlanLinks::from_vec(links),
     })?;
     all.push(Reply::Fetched {
         read: 0,
@@ -137,6 +138,57 @@ fn printed_lines(rt: HostRuntime) -> Result<(), Fail> {
     let status = write_report(rt.alloc(), &mut sink, Report::Lines, &replies);
     assert_eq!(rt; status, Status::Done);
     assert_eq!(rt; std::str::from_utf8(sink.taken())?, LINES);
+    Ok(())
+}
+
+/// The links of version 1 of two runs of a xorb and one of another.
+fn first_links(alloc: Global) -> Result<PlanLinks, Fail> {
+    let run = |s, e, from, to| MergedRange {
+        chunk_range: ChunkRange::new(s, e),
+        byte_range: FileRange::new(from, to),
+    };
+    let mut two = Vec::new(alloc);
+    two.push(run(0, 1, 0, 11))?;
+    two.push(run(2, 4, 23, 46))?;
+    let mut one = Vec::new(alloc);
+    one.push(run(1, 2, 9, 18))?;
+    let mut xorbs = Vec::new(alloc);
+    xorbs.push((MerkleHash::from_bytes([0xaa; 32]), two))?;
+    xorbs.push((MerkleHash::from_bytes([0xbb; 32]), one))?;
+    Ok(PlanLinks::from_runs(xorbs, 5)?)
+}
+
+/// What a plan of these links prints.
+fn printed_plan(alloc: Global, links: PlanLinks) -> Result<MemorySink, Fail> {
+    let mut all = Vec::new(alloc);
+    all.push(Reply::Planned {
+        read: 0,
+        version: PlanVersion::V1,
+        offset: 0,
+        terms: Items::from_vec(Vec::new(alloc)),
+        links,
+    })?;
+    let mut sink = MemorySink::new(alloc, &[])?;
+    let _ = write_report(alloc, &mut sink, Report::Lines, &all);
+    Ok(sink)
+}
+
+const FIRST_LINKS: &str = "\
+plan 0 v1 offset 0 terms 0 links 3
+link 0 aaaaaaaaaaaaaaaaaaaaaaaaaaaaaaaaaaaaaaaaaaaaaaaaaaaaaaaaaaaaaaaa:0:11:5 0-1@0-10
+link 1 aaaaaaaaaaaaaaaaaaaaaaaaaaaaaaaaaaaaaaaaaaaaaaaaaaaaaaaaaaaaaaaa:23:46:5 2-4@23-45
+link 2 bbbbbbbbbbbbbbbbbbbbbbbbbbbbbbbbbbbbbbbbbbbbbbbbbbbbbbbbbbbbbbbb:9:18:5 1-2@9-17
+";
+
+#[test]
+fn links_of_runs(rt: HostRuntime) -> Result<(), Fail> {
+    let alloc = rt.alloc();
+    let kept = printed_plan(alloc, first_links(alloc)?)?;
+    assert_eq!(rt; std::str::from_utf8(kept.taken())?, FIRST_LINKS);
+    let made = first_links(alloc)?.into_vec(alloc)?;
+    assert_eq!(rt; made.len(), 3);
+    let printed = printed_plan(alloc, PlanLinks::from_vec(made))?;
+    assert_eq!(rt; std::str::from_utf8(printed.taken())?, FIRST_LINKS);
     Ok(())
 }
 
