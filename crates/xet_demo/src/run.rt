@@ -117,7 +117,7 @@ fn replies_of(alloc: Global, steps: &[Step]) -> Result<Vec<Reply>, OutOfMemory>
     ensures { IfOk result (λ replies. Answered steps.now replies.items) }
 {
     let mut service = ChunkService::new(alloc, MemoryClient::new(alloc));
-    let mut replies = Vec::new(alloc);
+    let mut replies = Vec::with_capacity(alloc, steps.len())?;
     run_steps(alloc, &mut service, steps, &mut replies)?;
     Ok(replies)
 }
