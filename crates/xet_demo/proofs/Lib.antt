@@ -1,6 +1,7 @@
 pub mod Numbers
 pub mod Cuts
 pub mod Steps
+pub mod Reading
 pub mod Printing
 pub mod OneWord
 pub mod TermWords

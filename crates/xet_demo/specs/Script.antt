@@ -1,5 +1,6 @@
 -- What a script means, line by line.
-use Rattle.std.specs.Prelude.{◌≡◌, ◌≢◌, ℕ, ◌+◌, List, ◌∷◌, ◌++◌, length, Result, Ok, Err}
+use denote.Ref.{Bor}
+use Rattle.std.specs.Prelude.{◌≡◌, ◌≢◌, ℕ, ◌+◌, ◌≤◌, List, ◌∷◌, ◌++◌, length, Result, Ok, Err}
 use Rattle.std.specs.List.{flat_map, AllByRecursion}
 use Rattle.std.specs.Str.Lines.{lines}
 use Rattle.std.specs.Global.{Vec}
@@ -46,3 +47,37 @@ abbrev pub AddsStepsOf : List ℕ → ℕ → List Step → List Step → Result
 AddsStepsOf text number old new (Ok done) = IsInside text × (new ≡ old ++ steps_of text)
 AddsStepsOf text number old new (Err (BadLine n)) = (line_of text ≡ Bad) × (n ≡ number)
 AddsStepsOf text number old new (Err OutOfMemory) = Unit {0}
+
+-- Whatever follows the text: its lines begin with lines inside the grammar, whose steps these are; the line behind them has this number, and of
+-- that and what follows, the text has this rest.
+pub record IsParsedTo (text rest : List ℕ) (number : ℕ) (steps : List Step) : Type 0 where
+  pub done : List (List ℕ)
+  pub lines_are : (more : List ℕ) → lines_of (text ++ more) ≡ done ++ lines_of (rest ++ more)
+  pub are : AreStepsOf done steps
+  pub number_is : number ≡ length done + 1
+  pub few : number + length rest ≤ length text + 1
+
+-- what a parser has: the line without an end, its number, and the steps before it
+pub record Parsed : Type 0 where
+  pub line : List ℕ
+  pub number : ℕ
+  pub steps : List Step
+
+-- it has these of the text so far
+abbrev pub HasParsed : List ℕ → Parsed → Type 0
+HasParsed text parsed = IsParsedTo text parsed.line parsed.number parsed.steps
+
+-- Line n is the first outside the grammar, whatever follows the text.
+abbrev pub Refuses : List ℕ → ScriptError → Type 0
+Refuses text (BadLine n) = (more : List ℕ) → IsFirstBad (lines_of (text ++ more)) n
+Refuses text OutOfMemory = Unit {0}
+
+-- The text is parsed so far, or refused.
+abbrev pub ParsesOn : List ℕ → Parsed → Result (Unit {0}) ScriptError → Type 0
+ParsesOn text parsed (Ok done) = HasParsed text parsed
+ParsesOn text parsed (Err e) = Refuses text e
+
+-- The text is parsed to this rest, or refused.
+abbrev pub AddsLines : List ℕ → ℕ → List Step → Result (Bor (List ℕ)) ScriptError → Type 0
+AddsLines text number steps (Ok rest) = IsParsedTo text rest.now number steps
+AddsLines text number steps (Err e) = Refuses text e

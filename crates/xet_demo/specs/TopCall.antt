@@ -1,5 +1,5 @@
 -- How a call of the program ends.
-use Rattle.std.specs.Prelude.{◌≡◌, ℕ, ◌+◌, ◌<◌, ◌≤◌, List, [], ◌∷◌, length, Option, Some, None, Result, Ok, Err}
+use Rattle.std.specs.Prelude.{◌≡◌, ℕ, ◌+◌, ◌<◌, ◌≤◌, List, [], ◌∷◌, ◌++◌, length, take, Option, Some, None, Result, Ok, Err}
 use Rattle.std.specs.Io.KnownBytes.{Consumes, IsAtEnd, Appends}
 use Rattle.std.specs.Global.{Vec}
 use Rattle.xet_types.specs.Faults.{Rose}
@@ -88,16 +88,37 @@ pub record ReadsSome (old new : Option (List ℕ)) (before now : ℕ) : Type 0 w
   pub no_further : length bytes ≤ limit + piece
   pub faults : now ≡ before
 
--- The whole script is answered, or there is a cause.
-abbrev pub ReadsScript : Option (List ℕ) → Option (List ℕ) → ℕ → ℕ → Result (Vec ℕ) Status → Type 0
-ReadsScript old new before now (Ok v) = WasRead old new before now v.items
-ReadsScript old new before now (Err ReadFault) = FailsToRead old new before now
-ReadsScript old new before now (Err TooLong) = ReadsTooMuch old new before now
-ReadsScript old new before now (Err OutOfMemory) = ReadsSome old new before now
-ReadsScript old new before now (Err Done) = ⊥
-ReadsScript old new before now (Err Usage) = ⊥
-ReadsScript old new before now (Err (BadLine n)) = ⊥
-ReadsScript old new before now (Err WriteFault) = ⊥
+-- So many bytes were read so far, these, no more than the limit, and no call failed.
+pub record HasRead (old new : Option (List ℕ)) (before now : ℕ) (bytes : List ℕ) (count : ℕ) : Type 0 where
+  pub consumed : Consumes old new bytes
+  pub counted : length bytes ≡ count
+  pub short : count ≤ limit
+  pub faults : now ≡ before
+
+-- The source failed, or gave too much.
+abbrev pub CannotRead : Option (List ℕ) → Option (List ℕ) → ℕ → ℕ → Status → Type 0
+CannotRead old new before now ReadFault = FailsToRead old new before now
+CannotRead old new before now TooLong = ReadsTooMuch old new before now
+CannotRead old new before now OutOfMemory = ⊥
+CannotRead old new before now Done = ⊥
+CannotRead old new before now Usage = ⊥
+CannotRead old new before now (BadLine n) = ⊥
+CannotRead old new before now WriteFault = ⊥
+
+-- After these bytes so many more were read, which are in the buffer, or there is a cause. None are read at the end alone.
+abbrev pub ReadsOn : Option (List ℕ) → Option (List ℕ) → ℕ → ℕ → List ℕ → ℕ → List ℕ → Result ℕ Status → Type 0
+ReadsOn old new before now bytes length buffer (Ok count) = HasRead old new before now (bytes ++ take count buffer) (length + count) × (count ≡ 0 → IsAtEnd new)
+ReadsOn old new before now bytes length buffer (Err status) = CannotRead old new before now status
+
+-- A script that begins with these bytes was read.
+pub record IsReadPast (old new : Option (List ℕ)) (before now : ℕ) (bytes : List ℕ) : Type 0 where
+  pub more : List ℕ
+  pub read : WasRead old new before now (bytes ++ more)
+
+-- After these bytes the script was read to its end, or there is a cause.
+abbrev pub ReadsPast : Option (List ℕ) → Option (List ℕ) → ℕ → ℕ → List ℕ → Result (Unit {0}) Status → Type 0
+ReadsPast old new before now bytes (Ok done) = IsReadPast old new before now bytes
+ReadsPast old new before now bytes (Err status) = CannotRead old new before now status
 
 -- A script was read, and these are its steps.
 pub record ReadsStepsOf (old new : Option (List ℕ)) (before now : ℕ) (steps : List Step) : Type 0 where

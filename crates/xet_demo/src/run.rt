@@ -1,14 +1,15 @@
 //! The one call of the program.
-ghost use Rattle.std.specs.Prelude.{◌≡◌, ◌↔◌, ◌≤◌, ℕ, List, Option, None, IfOk, map, length};
+ghost use Rattle.std.specs.Prelude.{◌≡◌, ◌↔◌, ◌≤◌, ◌+◌, ℕ, List, Option, None, IfOk, map, length};
 ghost use Rattle.std.specs.String.{string_bytes};
 ghost use Rattle.xet_demo.specs.Summaries.{report_text};
 ghost use Rattle.xet_demo.specs.Calls.{call_of};
-ghost use Rattle.xet_demo.specs.TopCall.{Answered, EndsAs, EndsMade, EndsSo, ReadsScript, ReadsSteps, WritesText, sides, exit_of};
+ghost use Rattle.std.specs.Io.{ReadsAtMost};
+ghost use Rattle.xet_demo.specs.TopCall.{Answered, EndsAs, EndsMade, EndsSo, HasRead, ReadsOn, ReadsPast, ReadsSteps, WritesText, sides, exit_of};
 
 use crate::made::made_steps;
 use crate::print::page::Page;
 use crate::print::{Report, print_report};
-use crate::script::{ScriptError, parse_script};
+use crate::script::{Parser, ScriptError};
 use crate::words::{Call, call_of};
 use std::alloc::Global;
 use std::{fmt, mem};
@@ -73,39 +74,66 @@ impl fmt::Display for Status {
     }
 }
 
-/// Reads the source to its end, or until it has given more than the limit.
-fn read_script<S: Source>(alloc: Global, source: &mut S) -> Result<Vec<u8>, Status>
-    ensures { ReadsScript (S.left source.old) (S.left source.new) (S.faults source.old) (S.faults source.new) result }
+/// Reads the next piece of a script, of which so many bytes were read, and answers how many bytes it has: none at the end.
+fn read_piece<S: Source>(
+    source: &mut S,
+    buffer: &mut [u8; PIECE],
+    length: usize,
+) -> Result<usize, Status>
+    requires { length ≤ LIMIT }
+    ensures bound { ReadsAtMost result buffer.new }
+    ensures short { IfOk result (λ count. length + count ≤ LIMIT) }
+    ensures read { (start : Option (List ℕ)) (before : ℕ) (script : List ℕ) → HasRead start (S.left source.old) before (S.faults source.old) script length → ReadsOn start (S.left source.new) before (S.faults source.new) script length buffer.new result }
 {
-    let mut script = Vec::new(alloc);
-    let mut buffer = [0u8; PIECE];
-    'turns: for _ in 0..LIMIT + 1 {
-        let count = match source.read(&mut buffer) {
-            Ok(count) => count,
-            Err(Failed) => return Err(Status::ReadFault),
-        };
-        if count == 0 {
-            return Ok(script);
-        }
-        if script.extend_from_slice(&buffer[..count]).is_err() {
-            return Err(Status::OutOfMemory);
-        }
-        if script.len() > LIMIT {
-            return Err(Status::TooLong);
-        }
+    let count = match source.read(buffer) {
+        Ok(count) => count,
+        Err(Failed) => return Err(Status::ReadFault),
+    };
+    if count > LIMIT - length {
+        Err(Status::TooLong)
+    } else {
+        Ok(count)
     }
-    unreachable!()
 }
 
-/// The steps of the script that the source gives.
-fn read_steps<S: Source>(alloc: Global, source: &mut S) -> Result<Vec<Step>, Status>
+/// Reads a script of which so many bytes were read to its end, and keeps nothing of it.
+fn read_past<S: Source>(source: &mut S, length: usize) -> Result<(), Status>
+    requires { length ≤ LIMIT }
+    ensures { (start : Option (List ℕ)) (before : ℕ) (script : List ℕ) → HasRead start (S.left source.old) before (S.faults source.old) script length → ReadsPast start (S.left source.new) before (S.faults source.new) script result }
+{
+    let mut buffer = [0u8; PIECE];
+    let mut length = length;
+    'pieces: loop {
+        match read_piece(source, &mut buffer, length)? {
+            0 => return Ok(()),
+            count => length += count,
+        }
+    }
+}
+
+/// The steps of the script that the source gives, which is parsed while it is read.
+pub(crate) fn read_steps<S: Source>(alloc: Global, source: &mut S) -> Result<Vec<Step>, Status>
     ensures { ReadsSteps (S.left source.old) (S.left source.new) (S.faults source.old) (S.faults source.new) result }
 {
-    let script = match read_script(alloc, source) {
-        Ok(script) => script,
-        Err(status) => return Err(status),
-    };
-    match parse_script(alloc, &script) {
+    let mut parser = Parser::new(alloc);
+    let mut buffer = [0u8; PIECE];
+    let mut length = 0;
+    'pieces: loop {
+        let count = read_piece(source, &mut buffer, length)?;
+        if count == 0 {
+            break;
+        }
+        length += count;
+        match parser.take(alloc, &buffer[..count]) {
+            Ok(()) => {}
+            Err(ScriptError::BadLine(n)) => {
+                read_past(source, length)?;
+                return Err(Status::BadLine(n));
+            }
+            Err(ScriptError::OutOfMemory) => return Err(Status::OutOfMemory),
+        }
+    }
+    match parser.finish(alloc) {
         Ok(steps) => Ok(steps),
         Err(ScriptError::BadLine(n)) => Err(Status::BadLine(n)),
         Err(ScriptError::OutOfMemory) => Err(Status::OutOfMemory),

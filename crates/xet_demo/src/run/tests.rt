@@ -53,6 +53,37 @@ fn too_long(rt: HostRuntime) -> Result<(), Fail> {
     Ok(())
 }
 
+#[test]
+fn lines_over_pieces(rt: HostRuntime) -> Result<(), Fail> {
+    for comment in (65_510..65_540).chain(131_060..131_080) {
+        let mut script = vec![in rt.alloc(); b'#'; comment]?;
+        script.extend_from_slice(b"\r\n6 fetch 0 0\n\n7 frob\n")?;
+        let got = call(rt.alloc(), &["memory"], &script, &[])?;
+        assert_eq!(rt; got.0, Status::BadLine(4));
+        assert_eq!(rt; got.1, 0);
+    }
+    Ok(())
+}
+
+#[test]
+fn faults_after_a_bad_line(rt: HostRuntime) -> Result<(), Fail> {
+    let mut script = vec![in rt.alloc(); b'#'; 131_072]?;
+    script[..7].copy_from_slice(b"0 frob\n");
+    let cases: [(&[u64], Status); 5] = [
+        (&[0], Status::ReadFault),
+        (&[1], Status::ReadFault),
+        (&[2], Status::ReadFault),
+        (&[3], Status::BadLine(1)),
+        (&[], Status::BadLine(1)),
+    ];
+    for (failing, expected) in cases {
+        let got = call(rt.alloc(), &["memory"], &script, failing)?;
+        assert_eq!(rt; got.0, expected);
+        assert_eq!(rt; got.1, 0);
+    }
+    Ok(())
+}
+
 /// A reply for each line of the format, and what it prints.
 fn replies(alloc: Global) -> Result<Vec<Reply>, Fail> {
     let hash = MerkleHash::from_bytes([0xaa; 32]);

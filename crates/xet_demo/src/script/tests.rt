@@ -1,15 +1,18 @@
 //! Lines inside the grammar and outside it.
-use super::*;
+use crate::run::{Status, read_steps};
+use std::alloc::Global;
 use std::test::Fail;
+use xet_types::MemorySource;
 
 const HASH: &str = "4f8b42c22dd3729b519ba6f68d2da7cc5b2d606d05daed5ad5128cc03e6c6358";
 
 /// How many steps a script has, or the number of its first bad line, as a text.
 fn outcome(alloc: Global, script: &[u8]) -> Result<String, Fail> {
-    match parse_script(alloc, script) {
+    let mut source = MemorySource::new(alloc, script, &[])?;
+    match read_steps(alloc, &mut source) {
         Ok(steps) => Ok(format!(in alloc; "{} steps", steps.len())?),
-        Err(ScriptError::BadLine(n)) => Ok(format!(in alloc; "line {n}")?),
-        Err(ScriptError::OutOfMemory) => Ok(format!(in alloc; "memory")?),
+        Err(Status::BadLine(n)) => Ok(format!(in alloc; "line {n}")?),
+        Err(status) => Ok(format!(in alloc; "{status}")?),
     }
 }
 
