@@ -13,3 +13,4 @@ pub mod Places
 pub mod AsciiParts
 pub mod Quiet
 pub mod RunTexts
+pub mod Encoding

@@ -1,5 +1,5 @@
 -- The files of a large run, and the sums of its summary.
-use Rattle.std.proofs.Common.{◌≡◌, ◌∙◌, ℕ, suc, ◌+◌, ◌-◌, ◌*◌, ◌^◌, ◌<◌, ◌==◌, true, cond, List, [], ◌∷◌, ◌++◌, length, map, max, min, replicate, slice_range, refl, sym, ap, subst, arith, append-nil}
+use Rattle.std.proofs.Common.{◌≡◌, ◌∙◌, ℕ, suc, ◌+◌, ◌-◌, ◌^◌, ◌==◌, true, List, [], ◌++◌, length, map, min, replicate, slice_range, refl, sym, ap, arith, append-nil}
 use Rattle.std.proofs.lemmas.Bool.{eq-eqb}
 use Rattle.std.proofs.lemmas.List.{map-append, length-append}
 use Rattle.std.proofs.lemmas.List.Elements.{All-from_recursion}
@@ -11,7 +11,6 @@ use Rattle.xet_xorb.proofs.Generating.{seeded_formed}
 use Rattle.xet_xorb.proofs.Slices.{slice_range-map}
 use Rattle.xet_generated.specs.Terms.{greatest_end, xorb_of, file_chunks}
 use Rattle.xet_generated.specs.Shards.{generated_name, name_of_chunks}
-use Rattle.xet_service.specs.declared.step.Step.{Step}
 use Rattle.xet_demo.specs.Summaries.{capped}
 use Rattle.xet_demo.specs.Making.{made_terms, made_chunks, made_name, file_steps, made_steps}
 

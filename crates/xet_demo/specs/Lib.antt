@@ -4,6 +4,7 @@ pub mod Terms
 pub mod Lines
 pub mod Script
 pub mod Pages
+pub mod Blocks
 pub mod Printed
 pub mod Summaries
 pub mod Making

@@ -11,7 +11,9 @@ ghost use Rattle.xet_demo.specs.Printed.{octets_text, truth_word, version_word, 
 ghost use Rattle.xet_demo.specs.Summaries.{report_text};
 
 pub mod digits;
+pub mod encoder;
 pub mod page;
+pub mod second_link;
 pub mod summary;
 
 use page::Page;

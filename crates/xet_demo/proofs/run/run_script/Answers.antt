@@ -2,7 +2,6 @@ use Rattle.std.proofs.Common.{◌≡◌, ◌∙◌, Option, Some, None, ap, sym,
 use Rattle.xet_demo.specs.declared.words.Call.{Call}
 use Rattle.xet_demo.specs.declared.words.Call.TheVariants.{Make}
 use Rattle.xet_demo.specs.declared.run.Status.{Status}
-use Rattle.xet_demo.specs.declared.run.Status.TheVariants.{Usage}
 use Rattle.xet_demo.specs.TopCall.{Answered, EndsAs, EndsMade, Sides, sides}
 use Rattle.xet_demo.proofs.run.run_script.Goals as goal
 

@@ -1,5 +1,3 @@
-use Rattle.std.proofs.Common.{◌∙◌, ap, refl, sym, arith}
-use Rattle.std.specs.Prelude.{length}
 use Rattle.xet_demo.proofs.Making.{counts_on, has_counted, counts_from}
 use Rattle.xet_demo.proofs.print.summary.length_of.Goals as goal
 
