@@ -12,5 +12,4 @@ pub mod HexLower
 pub mod Places
 pub mod AsciiParts
 pub mod Quiet
-pub mod RunTexts
 pub mod Encoding

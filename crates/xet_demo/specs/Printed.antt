@@ -10,7 +10,7 @@ use Rattle.xet_types.specs.declared.record.XorbReconstructionTerm.{XorbReconstru
 use Rattle.xet_types.specs.declared.record.XorbRangeDescriptor.{XorbRangeDescriptor}
 use Rattle.xet_service.specs.declared.step.PlanVersion.{PlanVersion}
 use Rattle.xet_service.specs.declared.step.PlanVersion.TheVariants.{V1, V2}
-use Rattle.xet_service.specs.declared.reply.PlannedLink.{PlannedLink}
+use Rattle.xet_service.specs.Links.{LinkModel}
 use Rattle.xet_service.specs.declared.reply.CacheNote.{CacheNote}
 use Rattle.xet_service.specs.declared.reply.CacheRefusal.{CacheRefusal}
 use Rattle.xet_service.specs.declared.reply.CacheRefusal.TheVariants as caches
@@ -105,11 +105,11 @@ ranges_text (r ∷ rs) = range_text [] r ++ flat_map (range_text (codes ",")) rs
 unfoldable pub link_start : ℕ → List ℕ → List ℕ
 link_start n url = joined (codes "link " ∷ decimal n ∷ codes " " ∷ url ∷ codes " " ∷ [])
 
-abbrev pub link_line : ℕ → PlannedLink → List ℕ
+abbrev pub link_line : ℕ → LinkModel → List ℕ
 link_line n l = link_start n l.url ++ ranges_text l.ranges ++ codes "\n"
 
 -- the links are numbered
-abbrev pub links_text : ℕ → List PlannedLink → List ℕ
+abbrev pub links_text : ℕ → List LinkModel → List ℕ
 links_text n [] = []
 links_text n (l ∷ ls) = link_line n l ++ links_text (n + 1) ls
 
@@ -130,10 +130,10 @@ unfoldable pub entry_start : List ℕ → List ℕ → List ℕ
 entry_start hash url = joined (codes "entry " ∷ encode_lower hash ∷ codes " " ∷ url ∷ codes " " ∷ [])
 
 -- a link of a plan of several files, under its xorb
-abbrev pub xorb_entry_line : PlannedLink → List ℕ
+abbrev pub xorb_entry_line : LinkModel → List ℕ
 xorb_entry_line l = entry_start l.hash l.url ++ ranges_text l.ranges ++ codes "\n"
 
-abbrev pub xorb_entries_text : List PlannedLink → List ℕ
+abbrev pub xorb_entries_text : List LinkModel → List ℕ
 xorb_entries_text links = flat_map xorb_entry_line links
 
 abbrev pub cache_word : Option CacheRefusal → List ℕ

@@ -1,11 +1,11 @@
 //! Replies as text.
-ghost use Rattle.std.specs.Prelude.{◌≡◌, ◌+◌, ◌^◌, ◌<◌, ◌∷◌, ◌++◌, length, codes};
+ghost use Rattle.std.specs.Prelude.{◌≡◌, ◌+◌, ◌^◌, ◌<◌, ◌∷◌, ◌++◌, length, map, codes};
 ghost use Rattle.std.specs.Fmt.{decimal};
 ghost use Rattle.std.specs.List.{flat_map};
 ghost use Rattle.hex.specs.Hex.{encode_lower};
 ghost use Rattle.xet_wire.specs.Links.{link_text};
-ghost use Rattle.xet_service.specs.RunLinks.{run_link, run_links};
-ghost use Rattle.xet_service.specs.LinkForms.{first_links, count_runs};
+ghost use Rattle.xet_store.specs.Responses.{descriptor_of, ranges_link};
+ghost use Rattle.xet_service.specs.LinkForms.{version_text, version_link};
 ghost use Rattle.xet_demo.specs.Pages.{Prints, output};
 ghost use Rattle.xet_demo.specs.Printed.{octets_text, truth_word, version_word, uploaded_line, shard_line, none_line, done_line, size_line, dedup_start, data_start, plan_line, term_line, terms_text, range_text, ranges_text, link_start, link_line, links_text, cache_word, note_text, fetched_start, finished_start, refusal_word, refusal_detail, refused_line, reply_text, replies_text, hashes_start, hash_line, hashes_text, files_start, entry_line, entries_text, random_line, lazy_line, batch_start, file_start, file_text, all_files_text, entry_start, xorb_entry_line, xorb_entries_text};
 ghost use Rattle.xet_demo.specs.Summaries.{report_text};
@@ -17,12 +17,10 @@ pub mod second_link;
 pub mod summary;
 
 use page::Page;
+use second_link::print_second_link;
 use summary::print_summary;
 use xet_plan::MergedRange;
-use xet_service::{
-    CacheNote, CacheRefusal, LinkText, LinksForm, Pieces, PlanLinks, PlanVersion, PlannedLink,
-    Reply, Spelling,
-};
+use xet_service::{CacheNote, CacheRefusal, Pieces, PlanLinks, PlanVersion, PlannedLink, Reply};
 use xet_store::descriptor;
 use xet_types::{
     FileRange, FormatFault, Items, MerkleHash, Octets, Refusal, Sink, XorbRangeDescriptor,
@@ -272,21 +270,22 @@ fn print_range<K: Sink>(page: &mut Page, sink: &mut K, before: &[u8], range: &Xo
     page.put_number(sink, range.bytes.end);
 }
 
-fn print_next_ranges<K: Sink>(page: &mut Page, sink: &mut K, ranges: &[XorbRangeDescriptor])
-    ensures { Prints (output (K.taken sink.old) (K.faults sink.old) page.old) (output (K.taken sink.new) (K.faults sink.new) page.new) (flat_map (range_text (codes ",")) ranges.now) }
+fn print_next_ranges<K: Sink>(page: &mut Page, sink: &mut K, runs: &[MergedRange])
+    ensures { Prints (output (K.taken sink.old) (K.faults sink.old) page.old) (output (K.taken sink.new) (K.faults sink.new) page.new) (flat_map (range_text (codes ",")) (map descriptor_of runs.now)) }
 {
-    for range in ranges {
-        print_range(page, sink, b",", range);
+    for run in runs {
+        print_range(page, sink, b",", &descriptor(run));
     }
 }
 
-fn print_ranges<K: Sink>(page: &mut Page, sink: &mut K, ranges: &[XorbRangeDescriptor])
-    ensures { Prints (output (K.taken sink.old) (K.faults sink.old) page.old) (output (K.taken sink.new) (K.faults sink.new) page.new) (ranges_text ranges.now) }
+/// Prints the chunks of runs, and their bytes with an inclusive end.
+fn print_ranges<K: Sink>(page: &mut Page, sink: &mut K, runs: &[MergedRange])
+    ensures { Prints (output (K.taken sink.old) (K.faults sink.old) page.old) (output (K.taken sink.new) (K.faults sink.new) page.new) (ranges_text (map descriptor_of runs.now)) }
 {
-    match ranges {
+    match runs {
         [] => {}
         [first, rest @ ..] => {
-            print_range(page, sink, b"", first);
+            print_range(page, sink, b"", &descriptor(first));
             print_next_ranges(page, sink, rest);
         }
     }
@@ -316,118 +315,47 @@ fn print_first_link<K: Sink>(
     print_behind_colon(page, sink, at);
 }
 
-/// Prints the text of a link. That of one of version 1 is made of what spells it.
-fn print_link_text<K: Sink>(page: &mut Page, sink: &mut K, text: &LinkText)
-    ensures { Prints (output (K.taken sink.old) (K.faults sink.old) page.old) (output (K.taken sink.new) (K.faults sink.new) page.new) text.now }
+/// Prints the text of a link.
+fn print_link_text<K: Sink>(page: &mut Page, sink: &mut K, link: &PlannedLink<'_>)
+    ensures { Prints (output (K.taken sink.old) (K.faults sink.old) page.old) (output (K.taken sink.new) (K.faults sink.new) page.new) (version_text link.now.version link.now.at link.now.hash link.now.runs.now) }
 {
-    match text.spelling() {
-        Spelling::First { hash, bytes, at } => print_first_link(page, sink, hash, bytes, *at),
-        Spelling::Text(text) => page.put(sink, text.as_slice()),
+    match link.version {
+        PlanVersion::V1 => match link.runs {
+            [] => {}
+            [run, ..] => print_first_link(page, sink, &link.hash, &run.byte_range, link.at),
+        },
+        PlanVersion::V2 => print_second_link(page, sink, &link.hash, link.runs, link.at),
     }
 }
 
 #[tactic(auto, unfolding(crate::specs::Printed::link_start))]
-fn print_link_start<K: Sink>(page: &mut Page, sink: &mut K, number: usize, url: &LinkText)
-    ensures { Prints (output (K.taken sink.old) (K.faults sink.old) page.old) (output (K.taken sink.new) (K.faults sink.new) page.new) (link_start number url.now) }
+fn print_link_start<K: Sink>(page: &mut Page, sink: &mut K, number: usize, link: &PlannedLink<'_>)
+    ensures { Prints (output (K.taken sink.old) (K.faults sink.old) page.old) (output (K.taken sink.new) (K.faults sink.new) page.new) (link_start number (version_text link.now.version link.now.at link.now.hash link.now.runs.now)) }
 {
     page.put(sink, b"link ");
     page.put_number(sink, number as u64);
     page.put(sink, b" ");
-    print_link_text(page, sink, url);
+    print_link_text(page, sink, link);
     page.put(sink, b" ");
 }
 
-fn print_link<K: Sink>(page: &mut Page, sink: &mut K, number: usize, link: &PlannedLink)
-    ensures { Prints (output (K.taken sink.old) (K.faults sink.old) page.old) (output (K.taken sink.new) (K.faults sink.new) page.new) (link_line number link.now) }
+fn print_link<K: Sink>(page: &mut Page, sink: &mut K, number: usize, link: &PlannedLink<'_>)
+    ensures { Prints (output (K.taken sink.old) (K.faults sink.old) page.old) (output (K.taken sink.new) (K.faults sink.new) page.new) (link_line number (version_link link.now.version link.now.at link.now.hash link.now.runs.now)) }
 {
-    print_link_start(page, sink, number, &link.url);
-    print_ranges(page, sink, link.ranges.as_slice());
+    print_link_start(page, sink, number, link);
+    print_ranges(page, sink, link.runs);
     page.put(sink, b"\n");
 }
 
-fn print_links<K: Sink>(page: &mut Page, sink: &mut K, links: &[PlannedLink])
+/// Prints the links of a plan, numbered from 0.
+fn print_links<K: Sink>(page: &mut Page, sink: &mut K, links: &PlanLinks)
     ensures { Prints (output (K.taken sink.old) (K.faults sink.old) page.old) (output (K.taken sink.new) (K.faults sink.new) page.new) (links_text 0 links.now) }
 {
-    for (number, link) in links.iter().enumerate() {
-        print_link(page, sink, number, link);
-    }
-}
-
-#[tactic(auto, unfolding(crate::specs::Printed::link_start))]
-fn print_run_start<K: Sink>(
-    page: &mut Page,
-    sink: &mut K,
-    number: usize,
-    hash: &MerkleHash,
-    bytes: &FileRange,
-    at: u64,
-)
-    ensures { Prints (output (K.taken sink.old) (K.faults sink.old) page.old) (output (K.taken sink.new) (K.faults sink.new) page.new) (link_start number (link_text hash.now bytes.now.start bytes.now.end at)) }
-{
-    page.put(sink, b"link ");
-    page.put_number(sink, number as u64);
-    page.put(sink, b" ");
-    print_first_link(page, sink, hash, bytes, at);
-    page.put(sink, b" ");
-}
-
-/// Prints the link of version 1 of a run of a xorb's chunks.
-fn print_run<K: Sink>(
-    page: &mut Page,
-    sink: &mut K,
-    number: usize,
-    hash: &MerkleHash,
-    run: &MergedRange,
-    at: u64,
-)
-    ensures { Prints (output (K.taken sink.old) (K.faults sink.old) page.old) (output (K.taken sink.new) (K.faults sink.new) page.new) (link_line number (run_link at hash.now run.now)) }
-{
-    print_run_start(page, sink, number, hash, &run.byte_range, at);
-    print_range(page, sink, b"", &descriptor(run));
-    page.put(sink, b"\n");
-}
-
-/// Prints the links of version 1 of a xorb's runs, the first of which has this number.
-fn print_runs<K: Sink>(
-    page: &mut Page,
-    sink: &mut K,
-    first: usize,
-    hash: &MerkleHash,
-    runs: &[MergedRange],
-    at: u64,
-)
-    requires { first + length runs.now < 2 ^ 64 }
-    ensures { Prints (output (K.taken sink.old) (K.faults sink.old) page.old) (output (K.taken sink.new) (K.faults sink.new) page.new) (links_text first (run_links at (hash.now, runs.now))) }
-{
-    for (i, run) in runs.iter().enumerate() {
-        print_run(page, sink, first + i, hash, run, at);
-    }
-}
-
-/// Prints the links of version 1 of the runs of xorbs.
-fn print_first_links<K: Sink>(
-    page: &mut Page,
-    sink: &mut K,
-    xorbs: &[(MerkleHash, Vec<MergedRange>)],
-    at: u64,
-)
-    requires { count_runs xorbs.now < 2 ^ 64 }
-    ensures { Prints (output (K.taken sink.old) (K.faults sink.old) page.old) (output (K.taken sink.new) (K.faults sink.new) page.new) (links_text 0 (first_links at xorbs.now)) }
-{
+    let mut walk = links.walk();
     let mut number = 0usize;
-    for (hash, runs) in xorbs {
-        print_runs(page, sink, number, hash, runs, at);
-        number += runs.len();
-    }
-}
-
-/// Prints the links of a plan. Those of version 1 are made of the planner's runs.
-fn print_plan_links<K: Sink>(page: &mut Page, sink: &mut K, links: &PlanLinks)
-    ensures { Prints (output (K.taken sink.old) (K.faults sink.old) page.old) (output (K.taken sink.new) (K.faults sink.new) page.new) (links_text 0 links.now) }
-{
-    match links.form() {
-        LinksForm::Runs { at, xorbs } => print_first_links(page, sink, xorbs, *at),
-        LinksForm::Made(links) => print_links(page, sink, links.as_slice()),
+    while let Some(link) = walk.next() {
+        print_link(page, sink, number, &link);
+        number += 1;
     }
 }
 
@@ -568,29 +496,30 @@ fn print_all_files<K: Sink>(
 }
 
 #[tactic(auto, unfolding(crate::specs::Printed::entry_start))]
-fn print_entry_start<K: Sink>(page: &mut Page, sink: &mut K, hash: &MerkleHash, url: &LinkText)
-    ensures { Prints (output (K.taken sink.old) (K.faults sink.old) page.old) (output (K.taken sink.new) (K.faults sink.new) page.new) (entry_start hash.now url.now) }
+fn print_entry_start<K: Sink>(page: &mut Page, sink: &mut K, link: &PlannedLink<'_>)
+    ensures { Prints (output (K.taken sink.old) (K.faults sink.old) page.old) (output (K.taken sink.new) (K.faults sink.new) page.new) (entry_start link.now.hash (version_text link.now.version link.now.at link.now.hash link.now.runs.now)) }
 {
     page.put(sink, b"entry ");
-    page.put_hash(sink, hash);
+    page.put_hash(sink, &link.hash);
     page.put(sink, b" ");
-    print_link_text(page, sink, url);
+    print_link_text(page, sink, link);
     page.put(sink, b" ");
 }
 
-fn print_xorb_entry<K: Sink>(page: &mut Page, sink: &mut K, link: &PlannedLink)
-    ensures { Prints (output (K.taken sink.old) (K.faults sink.old) page.old) (output (K.taken sink.new) (K.faults sink.new) page.new) (xorb_entry_line link.now) }
+fn print_xorb_entry<K: Sink>(page: &mut Page, sink: &mut K, link: &PlannedLink<'_>)
+    ensures { Prints (output (K.taken sink.old) (K.faults sink.old) page.old) (output (K.taken sink.new) (K.faults sink.new) page.new) (xorb_entry_line (version_link link.now.version link.now.at link.now.hash link.now.runs.now)) }
 {
-    print_entry_start(page, sink, &link.hash, &link.url);
-    print_ranges(page, sink, link.ranges.as_slice());
+    print_entry_start(page, sink, link);
+    print_ranges(page, sink, link.runs);
     page.put(sink, b"\n");
 }
 
-fn print_xorb_entries<K: Sink>(page: &mut Page, sink: &mut K, links: &[PlannedLink])
+fn print_xorb_entries<K: Sink>(page: &mut Page, sink: &mut K, links: &PlanLinks)
     ensures { Prints (output (K.taken sink.old) (K.faults sink.old) page.old) (output (K.taken sink.new) (K.faults sink.new) page.new) (xorb_entries_text links.now) }
 {
-    for link in links {
-        print_xorb_entry(page, sink, link);
+    let mut walk = links.walk();
+    while let Some(link) = walk.next() {
+        print_xorb_entry(page, sink, &link);
     }
 }
 
@@ -630,7 +559,7 @@ pub fn print_reply<K: Sink>(page: &mut Page, sink: &mut K, reply: &Reply)
                 links.len(),
             );
             print_terms(page, sink, terms.as_slice());
-            print_plan_links(page, sink, links);
+            print_links(page, sink, links);
         }
         Reply::Fetched {
             read,
@@ -674,7 +603,7 @@ pub fn print_reply<K: Sink>(page: &mut Page, sink: &mut K, reply: &Reply)
         Reply::Batch { files, links } => {
             print_batch_start(page, sink, files.len(), links.len());
             print_all_files(page, sink, files.as_slice());
-            print_xorb_entries(page, sink, links.as_slice());
+            print_xorb_entries(page, sink, links);
         }
         Reply::Refused(refusal) => print_refused(page, sink, refusal),
     }

@@ -25,14 +25,13 @@ use Rattle.xet_store.proofs.StoreLaws.{uploads_xorb_sound, uploads_shard_sound, 
 use Rattle.xet_service.specs.declared.step.Act.{Act}
 use Rattle.xet_service.specs.declared.step.Act.TheVariants.{UploadXorb, UploadShard, Plan, Fetch, Abandon, HideFile, DeleteShard, DeleteXorb, SetExpiration, SetMaxRanges, FileSize, FileData, SetDedupExpiration, DedupQuery, RemoveDedup, ListXorbs, ListShards, ListFiles, CheckIntegrity, CheckReachable, CheckReadable, InsertRandomXorb, Batch, InsertLazyFile}
 use Rattle.xet_service.specs.declared.step.PlanVersion.{PlanVersion}
-use Rattle.xet_service.specs.declared.reply.PlannedLink.{PlannedLink}
 use Rattle.xet_service.specs.declared.reply.CacheNote.{CacheNote}
 use Rattle.xet_service.specs.declared.reply.Reply.{Reply}
-use Rattle.xet_service.specs.declared.reply.Reply.TheVariants.{Uploaded, ShardTaken, NoPlan, Done, Planned, Fetched, Finished, NoShard, ShardBytes, Size, Data, Refused, Hashes, Files, Random}
+use Rattle.xet_service.specs.declared.reply.Reply.TheVariants.{Uploaded, ShardTaken, NoPlan, Done, Planned, Fetched, Finished, Size, Data, Refused, Hashes, Files, Random}
 use Rattle.xet_service.specs.declared.read.OpenRead.{OpenRead}
 use Rattle.xet_service.specs.declared.reader.link.ReadLink.{ReadLink}
 use Rattle.xet_service.specs.Bodies.{Body, type_text, SendsStored}
-use Rattle.xet_service.specs.Links.{answer_of}
+use Rattle.xet_service.specs.Links.{LinkModel, answer_of}
 use Rattle.xet_service.specs.Reading.{Reading, left_link, count_left, take_link, BringsTo, Accepts, bytes_read}
 use Rattle.xet_service.specs.ReadingPlans.{can_open, reading_of}
 use Rattle.xet_service.specs.World.{State, Reads}
@@ -45,7 +44,6 @@ use Rattle.xet_service.proofs.Planned.{answered_links, planned_empty}
 use Rattle.xet_service.proofs.Causing.{Reached, Says, plan_says, batch_asked}
 use Rattle.xet_service.proofs.Keeping.{reply_is}
 use Rattle.xet_service.proofs.Goods.{GoodRead, GoodLink, IsGoodAt, GoodAt, Goods, all_chunks}
-use Rattle.xet_service.proofs.PlanRuns.{same_terms, same_offset}
 use Rattle.xet_service.proofs.Taken.{got_is, fetched_good, fetched_last}
 
 -- What the read of a plan is: it is good, and it is to give the file's bytes.
@@ -183,7 +181,7 @@ module _ (facts : GoodFacts) (m : Content) (w : World) (version : PlanVersion) (
   abbrev answer : PlanModel → SecondPlan
   answer plan = answer_of version s.store.max_ranges at plan
 
-  abbrev links_at : PlanModel → List PlannedLink
+  abbrev links_at : PlanModel → List LinkModel
   links_at plan = answered_links version s.store.max_ranges at plan
 
   empty_steps : (plan : PlanModel) → Reached s.store file range plan → links_at plan ≡ [] → Ends (Ok (Finished s.next [] 0 no_note), record s { next = s.next + 1 })
@@ -200,7 +198,7 @@ module _ (facts : GoodFacts) (m : Content) (w : World) (version : PlanVersion) (
             sym bytes ∙ sym (fixed_next plan f ∙ planned_empty version s.store.max_ranges at f.serves.planned none (content_of s.store)) ∙ ap new.fixed number;
       }
 
-  open_steps : (plan : PlanModel) (l : PlannedLink) (ls : List PlannedLink) → Reached s.store file range plan → links_at plan ≡ l ∷ ls
+  open_steps : (plan : PlanModel) (l : LinkModel) (ls : List LinkModel) → Reached s.store file range plan → links_at plan ≡ l ∷ ls
       → Ends (Ok (Planned s.next version (answer plan).offset_into_first_range (answer plan).terms (l ∷ ls)), opened s (read_of (answer plan) range at))
   open_steps plan l ls f links h =
       let read : OpenRead = read_of (answer plan) range at in
@@ -219,7 +217,7 @@ module _ (facts : GoodFacts) (m : Content) (w : World) (version : PlanVersion) (
         finished = λ n b wire note g. absurd (let k : Planned s.next version (answer plan).offset_into_first_range (answer plan).terms (l ∷ ls) ≡ Finished n b wire note = sym (reply_is reply (Planned s.next version (answer plan).offset_into_first_range (answer plan).terms (l ∷ ls)) (sym (ap (λ (o : Outcome). o.0) h))) ∙ g in cc);
       }
 
-  links_steps : (plan : PlanModel) (ls : List PlannedLink) → Reached s.store file range plan → links_at plan ≡ ls → Ends (open_links s version (answer plan) range at ls)
+  links_steps : (plan : PlanModel) (ls : List LinkModel) → Reached s.store file range plan → links_at plan ≡ ls → Ends (open_links s version (answer plan) range at ls)
   links_steps plan [] f is = empty_steps plan f is
   links_steps plan (l ∷ ls) f is = open_steps plan l ls f is
 

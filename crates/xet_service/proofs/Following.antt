@@ -10,11 +10,10 @@ use Rattle.xet_store.specs.TermData.{is_expired}
 use Rattle.xet_service.specs.declared.step.PlanVersion.{PlanVersion}
 use Rattle.xet_service.specs.declared.step.Act.{Act}
 use Rattle.xet_service.specs.declared.step.Act.TheVariants.{UploadXorb, UploadShard, Plan, Fetch, Abandon, HideFile, DeleteShard, DeleteXorb, SetExpiration, SetMaxRanges, FileSize, FileData, SetDedupExpiration, DedupQuery, RemoveDedup, ListXorbs, ListShards, ListFiles, CheckIntegrity, CheckReachable, CheckReadable, InsertRandomXorb, Batch, InsertLazyFile}
-use Rattle.xet_service.specs.declared.reply.PlannedLink.{PlannedLink}
 use Rattle.xet_service.specs.declared.reply.Reply.{Reply}
 use Rattle.xet_service.specs.declared.read.OpenRead.{OpenRead}
 use Rattle.xet_service.specs.declared.reader.link.ReadLink.{ReadLink}
-use Rattle.xet_service.specs.Links.{planned_links}
+use Rattle.xet_service.specs.Links.{LinkModel, planned_links}
 use Rattle.xet_service.specs.Bodies.{Body}
 use Rattle.xet_service.specs.Reading.{Reading, left_link, count_left}
 use Rattle.xet_service.specs.ReadingPlans.{can_open}
@@ -43,7 +42,7 @@ module _ (old : State) (at : ℕ) (result : Result Reply Refusal) (new : State) 
   by_reads : (o : ReadsOutcome) → IsIn o.1 → o ≡ (result, new.reads) → IsIn new.reads
   by_reads o l h = subst IsIn (ap (λ (p : ReadsOutcome). p.1) h) l
 
-  links_leave : (version : PlanVersion) (plan : SecondPlan) (range : Option (Range ℕ _F)) (ls : List PlannedLink) → IsIn (open_links old version plan range at ls).1.reads
+  links_leave : (version : PlanVersion) (plan : SecondPlan) (range : Option (Range ℕ _F)) (ls : List LinkModel) → IsIn (open_links old version plan range at ls).1.reads
   links_leave version plan range [] = found
   links_leave version plan range (l ∷ ls) = put_other old.next (read_of plan range at) (λ e. absurd (omega (arith, given, e)))
 

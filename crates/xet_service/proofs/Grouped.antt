@@ -16,13 +16,12 @@ use Rattle.xet_plan.specs.Groups.{groups_from, in_groups}
 use Rattle.xet_plan.specs.Plans.{PlanModel}
 use Rattle.xet_service.specs.declared.step.PlanVersion.{PlanVersion}
 use Rattle.xet_service.specs.declared.step.PlanVersion.TheVariants.{V1, V2}
-use Rattle.xet_service.specs.declared.reply.PlannedLink.{PlannedLink}
 use Rattle.xet_service.specs.declared.reader.link.ReadLink.{ReadLink}
-use Rattle.xet_service.specs.Links.{planned_links, answer_of}
+use Rattle.xet_service.specs.Links.{LinkModel, planned_links, answer_of}
 use Rattle.xet_service.specs.Reading.{Reading}
 use Rattle.xet_service.specs.ReadingPlans.{fresh_links, OpensLinks, Opens}
 use Rattle.xet_service.specs.RunLinks.{most_runs, run_link, group_link, runs_links, fresh_group, fresh_groups}
-use Rattle.xet_service.proofs.PlanRuns.{link_of, fresh_of, single, several, links_for, links_in, links_same, plan_fresh, same_terms, same_offset}
+use Rattle.xet_service.proofs.PlanRuns.{link_of, fresh_of, single, several, links_for, links_same, plan_fresh, same_terms, same_offset}
 
 -- ---- groups
 
@@ -65,11 +64,11 @@ module _ {X Y : Type 0} (u : X → Y) {Z : Type 0} (k : Z → List X) (e : Z →
 module _ (at : ℕ) (h : List ℕ) where
   run_links : (rs : List MergedRange) → map link_of (map (single at h) rs) ≡ map (run_link at h) rs
   run_links [] = refl
-  run_links (r ∷ rs) = ap (λ (ls : List PlannedLink). run_link at h r ∷ ls) (run_links rs)
+  run_links (r ∷ rs) = ap (λ (ls : List LinkModel). run_link at h r ∷ ls) (run_links rs)
 
   group_links : (gs : List (List MergedRange)) → map link_of (map (several at h) gs) ≡ map (group_link at h) gs
   group_links [] = refl
-  group_links (g ∷ gs) = ap (λ (ls : List PlannedLink). group_link at h g ∷ ls) (group_links gs)
+  group_links (g ∷ gs) = ap (λ (ls : List LinkModel). group_link at h g ∷ ls) (group_links gs)
 
   run_fresh : (rs : List MergedRange) → map fresh_of (map (single at h) rs) ≡ map (fresh_group h) (map (λ (r : MergedRange). r ∷ []) rs)
   run_fresh [] = refl
@@ -99,7 +98,7 @@ fresh_of_runs version max at plan = plan_fresh version max at plan ∙ in_parts 
 
 -- a group more of the runs that are left, which are cut where it ends
 module _ {X : Type 0} (link : List MergedRange → X) (max : ℕ) (some : 0 < max) where
-  cut_next : (n : ℕ) (rs : List MergedRange) → 0 < length rs → n ≡ min max (length rs) → in_groups max rs ≡ take n rs ∷ in_groups max (drop n rs)
+  pub cut_next : (n : ℕ) (rs : List MergedRange) → 0 < length rs → n ≡ min max (length rs) → in_groups max rs ≡ take n rs ∷ in_groups max (drop n rs)
   cut_next n rs any is = of (leb max (length rs)) refl
     where
       of : (b : Bool) → leb max (length rs) ≡ b → in_groups max rs ≡ take n rs ∷ in_groups max (drop n rs)
@@ -136,7 +135,7 @@ opens_plan version max at plan links terms offset range result links_are terms_a
     (subst (λ (n : ℕ). OpensLinks links terms n range result) o h))
 
 -- what the code makes of the plan's runs is the links of its answer
-pub links_are : (version : PlanVersion) (max at : ℕ) (plan : PlanModel) (links : List PlannedLink) (merged : List (List ℕ × List MergedRange)) → links ≡ flat_map (runs_links version max at) merged → merged ≡ plan.merged → links ≡ planned_links (answer_of version max at plan)
+pub links_are : (version : PlanVersion) (max at : ℕ) (plan : PlanModel) (links : List LinkModel) (merged : List (List ℕ × List MergedRange)) → links ≡ flat_map (runs_links version max at) merged → merged ≡ plan.merged → links ≡ planned_links (answer_of version max at plan)
 links_are version max at plan links merged made is = made ∙ ap (flat_map (runs_links version max at)) is ∙ sym (links_of_runs version max at plan)
 
 -- ---- the answer of a plan

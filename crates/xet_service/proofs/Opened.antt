@@ -22,11 +22,10 @@ use Rattle.xet_xorb.specs.Lengths.{packed_before}
 use Rattle.xet_xorb.specs.ChunkLists.{lengths_of}
 use Rattle.xet_plan.specs.declared.runs.MergedRange.{MergedRange}
 use Rattle.xet_service.specs.declared.step.PlanVersion.{PlanVersion}
-use Rattle.xet_service.specs.declared.reply.PlannedLink.{PlannedLink}
 use Rattle.xet_service.specs.declared.reader.held.LinkRange.{LinkRange}
 use Rattle.xet_service.specs.declared.reader.held.HeldTerm.{HeldTerm}
 use Rattle.xet_service.specs.declared.reader.link.ReadLink.{ReadLink}
-use Rattle.xet_service.specs.Links.{answer_of}
+use Rattle.xet_service.specs.Links.{LinkModel, answer_of}
 use Rattle.xet_service.specs.Reading.{has_length, chunks_or_none, nth_chunks, have_lengths, left_one, count_left}
 use Rattle.xet_service.specs.ReadingPlans.{all_apart, total_of, fresh_links, ranges_of, all_ranges, range_holds, range_of, all_held, held_term, held_by, held_terms, is_of_link, with_terms, plan_ranges, plan_terms, reading_of}
 use Rattle.xet_service.specs.World.{IsOrderly}
@@ -324,7 +323,7 @@ planned_good version max at store {segments = segments} {range = range} {clip = 
     let links : (reading_of second range).links ≡ with_terms 0 (map fresh_of ls) hs = ap (λ (ks : List ReadLink). with_terms 0 ks (plan_terms second)) fresh ∙ ap (with_terms 0 (map fresh_of ls)) terms in
     let order : AllByRecursion IsOrderly (with_terms 0 (map fresh_of ls) hs) = subst (AllByRecursion IsOrderly) links (orderly version max at store p sound range) in
     let fits = all_held_by ls (FitsAt store ls) plan.terms (fits_all store ls plan.terms there sized) in
-    let many : 0 < length ls = subst (λ n. 0 < n) (ap (λ (ks : List PlannedLink). length ks) (links_same version max at plan) ∙ length-map ls link_of) some in
+    let many : 0 < length ls = subst (λ n. 0 < n) (ap (λ (ks : List LinkModel). length ks) (links_same version max at plan) ∙ length-map ls link_of) some in
     let opened = both (all_apart (fresh_links second.xorbs)) (nat_le second.offset_into_first_range (total_of second.terms) && all_held (plan_ranges second) second.terms) can in
     let held : all_held (plan_ranges second) second.terms ≡ true = (both (nat_le second.offset_into_first_range (total_of second.terms)) (all_held (plan_ranges second) second.terms) opened.1).1 in
     let found : all_held (ranges ls) plan.terms ≡ true = ap (all_held (ranges ls)) (sym of_terms) ∙ ap (λ (ks : List ReadLink). all_held (all_ranges 0 ks) second.terms) (sym fresh) ∙ held in

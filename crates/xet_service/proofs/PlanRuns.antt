@@ -14,9 +14,8 @@ use Rattle.xet_wire.specs.Links.{link_text}
 use Rattle.xet_store.specs.Responses.{fetch_info_of, fetches_at, descriptor_of, ranges_link, ranges_fetch, ranges_fetches}
 use Rattle.xet_service.specs.declared.step.PlanVersion.{PlanVersion}
 use Rattle.xet_service.specs.declared.step.PlanVersion.TheVariants.{V1, V2}
-use Rattle.xet_service.specs.declared.reply.PlannedLink.{PlannedLink}
 use Rattle.xet_service.specs.declared.reader.link.ReadLink.{ReadLink}
-use Rattle.xet_service.specs.Links.{planned_link, xorb_links, planned_links, answer_of}
+use Rattle.xet_service.specs.Links.{LinkModel, planned_link, xorb_links, planned_links, answer_of}
 use Rattle.xet_service.specs.ReadingPlans.{fresh_link, fresh_links, xorb_links as read_links}
 
 -- a run of a xorb's chunks
@@ -52,7 +51,7 @@ link_runs l = map (run l.hash) l.runs
 abbrev pub all_runs : List Linked → List Run
 all_runs ls = flat_map link_runs ls
 
-abbrev pub link_of : Linked → PlannedLink
+abbrev pub link_of : Linked → LinkModel
 link_of l = record { hash = l.hash; url = l.url; ranges = map descriptor_of l.runs }
 
 -- the link of such runs, which is left
@@ -83,11 +82,11 @@ answer_for V2 max at g = ranges_fetches max at g
 module _ (at : ℕ) (h : List ℕ) where
   single_planned : (rs : List MergedRange) → map (planned_link h) (map fetch_of (map (fetch_info_of at h) rs)) ≡ map link_of (map (single at h) rs)
   single_planned [] = refl
-  single_planned (r ∷ rs) = ap (λ (ls : List PlannedLink). link_of (single at h r) ∷ ls) (single_planned rs)
+  single_planned (r ∷ rs) = ap (λ (ls : List LinkModel). link_of (single at h r) ∷ ls) (single_planned rs)
 
   several_planned : (gs : List (List MergedRange)) → map (planned_link h) (map (ranges_fetch at h) gs) ≡ map link_of (map (several at h) gs)
   several_planned [] = refl
-  several_planned (g ∷ gs) = ap (λ (ls : List PlannedLink). link_of (several at h g) ∷ ls) (several_planned gs)
+  several_planned (g ∷ gs) = ap (λ (ls : List LinkModel). link_of (several at h g) ∷ ls) (several_planned gs)
 
   single_fresh : (rs : List MergedRange) → map (fresh_link h) (map fetch_of (map (fetch_info_of at h) rs)) ≡ map fresh_of (map (single at h) rs)
   single_fresh [] = refl

@@ -13,9 +13,8 @@ use Rattle.xet_plan.specs.FileBytes.{Content, file_bytes}
 use Rattle.xet_plan.specs.Plans.{PlanModel}
 use Rattle.xet_plan.specs.Answers.{IsPlan, groups_of}
 use Rattle.xet_plan.proofs.Least.{reach_within}
-use Rattle.xet_service.specs.declared.reply.PlannedLink.{PlannedLink}
 use Rattle.xet_service.specs.declared.step.PlanVersion.{PlanVersion}
-use Rattle.xet_service.specs.Links.{planned_links, answer_of}
+use Rattle.xet_service.specs.Links.{LinkModel, planned_links, answer_of}
 use Rattle.xet_service.specs.Headline.{LinksHave, EachOnce}
 use Rattle.xet_service.proofs.PlanRuns.{Run, runs_of, all_runs, link_of, links_in, links_same, runs_same, InOrder}
 use Rattle.xet_service.proofs.RunOrder.{groups_in_order}
@@ -23,7 +22,7 @@ use Rattle.xet_service.proofs.RunChunks.{RunsHave, links_runs, runs_links, group
 use Rattle.xet_service.proofs.MetSome.{reach_rises, some_met, nothing_met}
 
 -- the links of the plan's answer in a version, at a moment
-abbrev pub answered_links : PlanVersion → ℕ → ℕ → PlanModel → List PlannedLink
+abbrev pub answered_links : PlanVersion → ℕ → ℕ → PlanModel → List LinkModel
 answered_links version max at plan = planned_links (answer_of version max at plan)
 
 -- a plan's runs are in order
@@ -45,14 +44,14 @@ module _ (version : PlanVersion) (max at : ℕ) where
   pub covers : {known : Known} {segments : List Segment} {clip : Interval} {plan : PlanModel} → IsPlan known segments clip plan → (hash : List ℕ) (k : ℕ)
       → LinksHave (answered_links version max at plan) hash k ↔ Has (met_chunks known clip segments) hash k
   covers {known = known} {segments = segments} {clip = clip} {plan = plan} p hash k =
-      subst (λ (ls : List PlannedLink). LinksHave ls hash k ↔ Has (met_chunks known clip segments) hash k) (sym (links_same version max at plan))
+      subst (λ (ls : List LinkModel). LinksHave ls hash k ↔ Has (met_chunks known clip segments) hash k) (sym (links_same version max at plan))
       (λ q. (p.merged.covers hash k).0 ((links_have plan hash k).0 q), λ q. (links_have plan hash k).1 ((p.merged.covers hash k).1 q))
 
   -- each once
   pub once : {known : Known} {segments : List Segment} {clip : Interval} {plan : PlanModel} → IsPlan known segments clip plan → EachOnce (answered_links version max at plan)
   once {plan = plan} p = subst EachOnce (sym (links_same version max at plan)) (runs_once (links_in version max at plan) (links_in_order p version max at))
 
-some_link : (ls : List PlannedLink) (hash : List ℕ) (k : ℕ) → LinksHave ls hash k → 0 < length ls
+some_link : (ls : List LinkModel) (hash : List ℕ) (k : ℕ) → LinksHave ls hash k → 0 < length ls
 some_link [] hash k p = absurd p
 some_link (l ∷ ls) hash k p = omega arith
 
@@ -67,4 +66,4 @@ planned_some version max at {known = known} {segments = segments} {clip = clip} 
 -- without links there are no bytes
 pub planned_empty : (version : PlanVersion) (max at : ℕ) {known : Known} {segments : List Segment} {clip : Interval} {plan : PlanModel} → IsPlan known segments clip plan → answered_links version max at plan ≡ [] → (content : Content) → file_bytes content clip segments ≡ []
 planned_empty version max at {known = known} {segments = segments} {clip = clip} {plan = plan} p e content =
-    nothing_met known segments clip content p.readable (λ h k q. subst (λ (ls : List PlannedLink). LinksHave ls h k) e ((covers version max at p h k).1 q))
+    nothing_met known segments clip content p.readable (λ h k q. subst (λ (ls : List LinkModel). LinksHave ls h k) e ((covers version max at p h k).1 q))

@@ -21,7 +21,6 @@ use Rattle.xet_store.specs.Responses.{response_by}
 use Rattle.xet_service.specs.declared.step.Act.{Act}
 use Rattle.xet_service.specs.declared.step.Act.TheVariants.{UploadXorb, UploadShard, Plan, Fetch, Abandon, HideFile, DeleteShard, DeleteXorb, SetExpiration, SetMaxRanges, FileSize, FileData, SetDedupExpiration, DedupQuery, RemoveDedup, ListXorbs, ListShards, ListFiles, CheckIntegrity, CheckReachable, CheckReadable, InsertRandomXorb, Batch, InsertLazyFile}
 use Rattle.xet_service.specs.declared.step.PlanVersion.{PlanVersion}
-use Rattle.xet_service.specs.declared.reply.PlannedLink.{PlannedLink}
 use Rattle.xet_service.specs.declared.reply.Reply.TheVariants.{Planned}
 use Rattle.xet_service.specs.declared.read.OpenRead.{OpenRead}
 use Rattle.xet_service.specs.World.{State}
@@ -34,7 +33,7 @@ use Rattle.xet_service.proofs.Succeeds.{IsOpen, Follows, fetch_goes, is_open, ha
 use Rattle.xet_types.specs.Records.{SecondPlan}
 use Rattle.xet_service.specs.declared.reader.held.HeldTerm.{HeldTerm}
 use Rattle.xet_service.specs.declared.reader.link.ReadLink.{ReadLink}
-use Rattle.xet_service.specs.Links.{planned_links, answer_of}
+use Rattle.xet_service.specs.Links.{LinkModel, planned_links, answer_of}
 use Rattle.xet_service.specs.ReadingPlans.{can_open, with_terms, plan_terms}
 use Rattle.xet_service.proofs.PlanRuns.{Linked, link_of, fresh_of, links_in, links_same, plan_fresh}
 use Rattle.xet_service.proofs.Planned.{answered_links, planned_some}
@@ -48,7 +47,7 @@ none_left (true ∷ bs) n e h = absurd (omega (arith, e))
 none_left (false ∷ bs) zero e h = absurd cc
 none_left (false ∷ bs) (suc n) e h = none_left bs n e h
 
-module _ (m : Content) (e : Event) (n stamp : ℕ) (links : List PlannedLink) (left : List Bool) (is : IsStep e) (agree : AgreesWith m e.before.state.store) (good : Goods m e.before) (follows : Follows e.before.state n stamp links left) where
+module _ (m : Content) (e : Event) (n stamp : ℕ) (links : List LinkModel) (left : List Bool) (is : IsStep e) (agree : AgreesWith m e.before.state.store) (good : Goods m e.before) (follows : Follows e.before.state n stamp links left) where
   -- an open read that the step doesn't name
   other_goes : (act : Act) → e.step.act ≡ act → NotNames n act → Follows e.after.state n stamp links left
   other_goes act act_is other = elim follows as (λ _. Follows e.after.state n stamp links left) [
@@ -113,7 +112,7 @@ module _ (m : Content) (e : Event) (n stamp : ℕ) (links : List PlannedLink) (l
   goes_by (InsertLazyFile terms size) act_is valid = (tt, other_goes _ act_is tt)
 
 -- the steps of a followed read succeed
-pub rest_goes : (facts : GoodFacts) (m : Content) (n stamp : ℕ) (links : List PlannedLink) (left : List Bool) (w : World) (es : List Event) (end : World) → Chain w es end → IsAgreed m es → Goods m w → Follows w.state n stamp links left
+pub rest_goes : (facts : GoodFacts) (m : Content) (n stamp : ℕ) (links : List LinkModel) (left : List Bool) (w : World) (es : List Event) (end : World) → Chain w es end → IsAgreed m es → Goods m w → Follows w.state n stamp links left
     → IsValidRest n stamp links left es → AnsweredRest n left es
 rest_goes facts m n stamp links left w [] end chain agree good follows valid = tt
 rest_goes facts m n stamp links left w (e ∷ es) end chain agree good follows valid =
@@ -128,7 +127,7 @@ rest_goes facts m n stamp links left w (e ∷ es) end chain agree good follows v
 pub record Opened (version : PlanVersion) (e : Event) (file : List ℕ) (range : Option (Range ℕ _F)) (served : IsServed e file range) : Type 0 where
   pub offset : ℕ
   pub terms : List XorbReconstructionTerm
-  pub links : List PlannedLink
+  pub links : List LinkModel
   pub reply : e.reply ≡ Planned e.before.state.next version offset terms links
   pub some : 0 < length links
   pub open_it : IsOpen e.after.state e.before.state.next e.step.at links (all_left links)
@@ -153,11 +152,11 @@ module _ (e : Event) (version : PlanVersion) (file : List ℕ) (range : Option (
   abbrev answer : PlanModel → SecondPlan
   answer plan = answer_of version max e.step.at plan
 
-  from_links : IsSound e.before.state.store → (plan : PlanModel) → Serves (known_of e.before.state.store) served.segments range served.clip plan → (ls : List PlannedLink) → answered_links version max e.step.at plan ≡ ls
+  from_links : IsSound e.before.state.store → (plan : PlanModel) → Serves (known_of e.before.state.store) served.segments range served.clip plan → (ls : List LinkModel) → answered_links version max e.step.at plan ≡ ls
       → open_links e.before.state version (answer plan) range e.step.at ls ≡ (outcome_of e.reply, e.after.state) → Opened version e file range served
   from_links sound plan serves [] links h =
       let some : 0 < length (answered_links version max e.step.at plan) = planned_some version max e.step.at serves.planned range served.reached served.some in
-      let none : length (answered_links version max e.step.at plan) ≡ 0 = ap (λ (ls : List PlannedLink). length ls) links in
+      let none : length (answered_links version max e.step.at plan) ≡ 0 = ap (λ (ls : List LinkModel). length ls) links in
       absurd (omega (arith, some, none))
   from_links sound plan serves (l ∷ ls) links h =
       let s = e.before.state in

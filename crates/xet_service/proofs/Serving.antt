@@ -20,14 +20,12 @@ use Rattle.xet_store.specs.StoreModel.{StoreModel, Chunks}
 use Rattle.xet_store.specs.Refusals.{RefusedBy}
 use Rattle.xet_store.specs.Responses.{RespondsBy}
 use Rattle.xet_service.specs.declared.step.PlanVersion.{PlanVersion}
-use Rattle.xet_service.specs.Links.{answer_of}
 use Rattle.xet_service.specs.Bodies.{Body, type_text}
 use Rattle.xet_service.specs.declared.reply.CacheNote.{CacheNote}
-use Rattle.xet_service.specs.declared.reply.PlannedLink.{PlannedLink}
 use Rattle.xet_service.specs.declared.reply.Reply.{Reply}
 use Rattle.xet_service.specs.declared.reply.Reply.TheVariants.{Done, Planned, Fetched, Finished}
 use Rattle.xet_service.specs.declared.read.OpenRead.{OpenRead}
-use Rattle.xet_service.specs.Links.{planned_links}
+use Rattle.xet_service.specs.Links.{answer_of, LinkModel, planned_links}
 use Rattle.xet_service.specs.Reading.{Reading, left_link, is_link_left, count_left, take_link, Gives, bytes_read}
 use Rattle.xet_service.specs.ReadingPlans.{can_open, reading_of, Opens as GivesRead}
 use Rattle.xet_service.specs.World.{State, Reads, state}
@@ -141,7 +139,7 @@ left_is reads read left held is w =
 
 -- ---- plans
 
-links_open : (s : State) (version : PlanVersion) (plan : SecondPlan) (range : Option (Range ℕ _F)) (at : ℕ) (ls : List PlannedLink) → 0 < length ls → open_links s version plan range at ls ≡ (Ok (Planned s.next version plan.offset_into_first_range plan.terms ls), record s { reads = insert s.reads s.next (record { reader = reading_of plan range; stamp = at }); next = s.next + 1 })
+links_open : (s : State) (version : PlanVersion) (plan : SecondPlan) (range : Option (Range ℕ _F)) (at : ℕ) (ls : List LinkModel) → 0 < length ls → open_links s version plan range at ls ≡ (Ok (Planned s.next version plan.offset_into_first_range plan.terms ls), record s { reads = insert s.reads s.next (record { reader = reading_of plan range; stamp = at }); next = s.next + 1 })
 links_open s version plan range at [] lt = absurd (omega (arith, lt))
 links_open s version plan range at (l ∷ ls) lt = refl
 
@@ -156,7 +154,7 @@ pub some_of : {X : Type 0} (xs : List X) (empty : Bool) → empty ≡ eqb (lengt
 some_of [] empty is not = let f : true ≡ false = sym is ∙ not in absurd cc
 some_of (x ∷ xs) empty is not = omega arith
 
-pub opens : (s : State) (version : PlanVersion) (plan : SecondPlan) (range : Option (Range ℕ _F)) (at : ℕ) (links : List PlannedLink) (reader : Reading) (reads : Reads) → used_up s.next ≡ false → (can_open plan ≡ true) × (reader ≡ reading_of plan range) → links ≡ planned_links plan → 0 < length links
+pub opens : (s : State) (version : PlanVersion) (plan : SecondPlan) (range : Option (Range ℕ _F)) (at : ℕ) (links : List LinkModel) (reader : Reading) (reads : Reads) → used_up s.next ≡ false → (can_open plan ≡ true) × (reader ≡ reading_of plan range) → links ≡ planned_links plan → 0 < length links
     → reads ≡ insert s.reads s.next (record { reader = reader; stamp = at }) → open_plan s version plan range at ≡ (Ok (Planned s.next version plan.offset_into_first_range plan.terms links), record s { reads = reads; next = s.next + 1 })
 opens s version plan range at links reader reads free can is some put =
     ap (λ (b : Bool). cond b (refuses s InvalidArguments) (cond (can_open plan) (open_links s version plan range at (planned_links plan)) (refuses s InvalidArguments))) free
@@ -169,7 +167,7 @@ abbrev ok_reply : Reply → Result Reply Refusal
 ok_reply reply = Ok reply
 
 -- a refusal leaves the state
-links_err : (s t : State) (version : PlanVersion) (plan : SecondPlan) (range : Option (Range ℕ _F)) (at : ℕ) (why : Refusal) (ls : List PlannedLink) → open_links s version plan range at ls ≡ (Err why, t) → t ≡ s
+links_err : (s t : State) (version : PlanVersion) (plan : SecondPlan) (range : Option (Range ℕ _F)) (at : ℕ) (why : Refusal) (ls : List LinkModel) → open_links s version plan range at ls ≡ (Err why, t) → t ≡ s
 links_err s t version plan range at why [] e = let f : ok_reply (Finished s.next [] 0 no_note) ≡ Err why = ap (λ (o : Outcome). o.0) e in absurd cc
 links_err s t version plan range at why (l ∷ ls) e = let f : ok_reply (Planned s.next version plan.offset_into_first_range plan.terms (l ∷ ls)) ≡ Err why = ap (λ (o : Outcome). o.0) e in absurd cc
 
@@ -192,7 +190,7 @@ module _ (s : State) (version : PlanVersion) (plan : SecondPlan) (range : Option
       ∙ ap (λ (u : Bool). cond u (open_links s version plan range at (planned_links plan)) (refuses s InvalidArguments)) can
 
   -- a plan without links finishes at once
-  pub opens_done : (links : List PlannedLink) → can_open plan ≡ true → links ≡ planned_links plan → links ≡ [] → open_plan s version plan range at ≡ (Ok (Finished s.next [] 0 no_note), record s { next = s.next + 1 })
+  pub opens_done : (links : List LinkModel) → can_open plan ≡ true → links ≡ planned_links plan → links ≡ [] → open_plan s version plan range at ≡ (Ok (Finished s.next [] 0 no_note), record s { next = s.next + 1 })
   opens_done links can is none = opens_if true can ∙ ap (open_links s version plan range at) (sym is ∙ none)
 
   -- one that gives no read is refused

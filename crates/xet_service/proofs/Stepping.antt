@@ -1,9 +1,8 @@
 -- What an answer of each act keeps.
-use Rattle.std.proofs.Common.{◌≡◌, ◌∙◌, ℕ, zero, suc, ◌+◌, ◌-◌, ◌<◌, ◌≤◌, ◌⊎◌, inl, inr, true, false, Bool, cond, ◌&&◌, List, [], ◌∷◌, length, map, Option, Some, None, Result, Ok, Err, refl, sym, ap, subst, arith, eqb, eq-eqb}
+use Rattle.std.proofs.Common.{◌≡◌, ◌∙◌, ℕ, zero, suc, ◌+◌, ◌<◌, ◌⊎◌, inl, inr, true, false, Bool, cond, List, [], ◌∷◌, length, map, Option, Some, None, Result, Ok, Err, refl, sym, ap, subst, arith, eqb, eq-eqb}
 use Rattle.std.specs.List.{AllByRecursion}
 use Rattle.std.specs.FinMap.{get, insert, remove}
 use Rattle.std.proofs.lemmas.Bool.{eqb-true}
-use Rattle.xet_types.specs.Ranges.{last_place}
 use Rattle.xet_types.specs.declared.error.Refusal.{Refusal}
 use Rattle.xet_types.specs.declared.error.Refusal.TheVariants.{FormatError, InvalidRange, InvalidArguments, XORBNotFound, PresignedUrlExpirationError, Other}
 use Rattle.xet_types.specs.declared.error.FormatFault.TheVariants as faults
@@ -11,12 +10,11 @@ use Rattle.xet_types.specs.Records.{SecondPlan}
 use Rattle.xet_types.specs.declared.range.Range.{Range}
 use Rattle.xet_types.specs.declared.range._F.{_F}
 use Rattle.xet_types.specs.declared.record.XorbReconstructionTerm.{XorbReconstructionTerm}
-use Rattle.xet_types.specs.declared.record.XorbRangeDescriptor.{XorbRangeDescriptor}
 use Rattle.xet_shard.specs.declared.listing.Segment.{Segment}
 use Rattle.xet_plan.specs.Places.{Interval}
 use Rattle.xet_plan.specs.Plans.{PlanModel}
 use Rattle.xet_store.specs.StoreModel.{StoreModel, Chunks, stored, known_of, IsSound}
-use Rattle.xet_store.specs.Commands.{hide_file, delete_xorb, set_expiration, set_max_ranges, set_dedup_expiration, drop_dedup}
+use Rattle.xet_store.specs.Commands.{hide_file, delete_xorb, set_expiration, set_dedup_expiration, drop_dedup}
 use Rattle.xet_store.specs.TermData.{is_expired}
 use Rattle.xet_store.specs.Questions.{file_size, file_data, dedup_answer, xorb_hashes}
 use Rattle.xet_store.specs.Lists.{shard_hashes, file_entries}
@@ -27,18 +25,17 @@ use Rattle.xet_store.specs.Responses.{response_by}
 use Rattle.xet_service.specs.declared.step.Act.{Act}
 use Rattle.xet_service.specs.declared.step.Act.TheVariants.{UploadXorb, UploadShard, Plan, Fetch, Abandon, HideFile, DeleteShard, DeleteXorb, SetExpiration, SetMaxRanges, FileSize, FileData, SetDedupExpiration, DedupQuery, RemoveDedup, ListXorbs, ListShards, ListFiles, CheckIntegrity, CheckReachable, CheckReadable, InsertRandomXorb, Batch, InsertLazyFile}
 use Rattle.xet_service.specs.declared.step.PlanVersion.{PlanVersion}
-use Rattle.xet_service.specs.declared.reply.PlannedLink.{PlannedLink}
 use Rattle.xet_service.specs.declared.reply.Reply.{Reply}
-use Rattle.xet_service.specs.declared.reply.Reply.TheVariants.{Uploaded, ShardTaken, NoPlan, Done, Planned, Fetched, Finished, NoShard, ShardBytes, Size, Data, Hashes, Files, Random}
+use Rattle.xet_service.specs.declared.reply.Reply.TheVariants.{Uploaded, ShardTaken, NoPlan, Done, Planned, Fetched, Finished, Size, Data, Hashes, Files, Random}
 use Rattle.xet_service.specs.declared.read.OpenRead.{OpenRead}
 use Rattle.xet_service.specs.declared.reader.link.ReadLink.{ReadLink}
-use Rattle.xet_service.specs.Bodies.{Body, type_text, all_lie_in, bytes_at, Sends, SendsOf, SendsStored, IsBodyOf}
-use Rattle.xet_service.specs.Links.{answer_of}
+use Rattle.xet_service.specs.Bodies.{Body, type_text, all_lie_in, bytes_at, Sends, SendsOf, IsBodyOf}
+use Rattle.xet_service.specs.Links.{LinkModel, answer_of}
 use Rattle.xet_service.specs.Reading.{Reading, left_link, count_left, take_link, AreAllWhole, HasParts, Brings as BodyBrings, BringsTo, Gives, Accepts, bytes_read}
 use Rattle.xet_service.specs.ReadingPlans.{can_open, reading_of}
 use Rattle.xet_service.specs.World.{State, Reads, IsOrderly, IsInOrder}
-use Rattle.xet_service.specs.Steps.{Outcome, ReadsOutcome, refuses, keeps_reads, no_note, used_up, read_of, opened, open_links, open_plan, plan_step, fetch_done, fetch_taken, with_reader, asked_bytes, TakesBody, FetchesBody, FetchesSent, FetchesIf, FetchesLink, FetchesRead, Fetches, abandon_read, abandon_step, map_ok, asks, was_done, Commands, PlansBy, Acts, shard_reply, batch_reply, lazy_reply}
-use Rattle.xet_service.specs.Causes.{HasCause, PlansNothing, IsLeft, FetchesLeft, FetchesStored, FetchesBytes, SetsNone}
+use Rattle.xet_service.specs.Steps.{Outcome, ReadsOutcome, refuses, keeps_reads, no_note, used_up, read_of, opened, open_links, open_plan, plan_step, fetch_done, fetch_taken, with_reader, asked_bytes, TakesBody, FetchesBody, FetchesIf, FetchesLink, FetchesRead, Fetches, abandon_read, abandon_step, map_ok, asks, was_done, Commands, PlansBy, Acts, shard_reply, batch_reply, lazy_reply}
+use Rattle.xet_service.specs.Causes.{HasCause, PlansNothing, IsLeft, FetchesLeft, FetchesStored, FetchesBytes}
 use Rattle.xet_service.specs.Headline.{HoldsMet, Brings}
 use Rattle.xet_service.proofs.Planned.{answered_links, covers, once}
 use Rattle.xet_service.proofs.Left.{by_put, by_gone, other_left, some_left, ranges_stay, left_orderly}
@@ -70,7 +67,7 @@ IsEnded act read link result = ((act ≡ Fetch read link) × ((reply : Reply) ×
 
 -- what an act's answer and the state after it keep
 pub record Kept (s : State) (at : ℕ) (act : Act) (result : Result Reply Refusal) (t : State) : Type 0 where
-  pub links : (version : PlanVersion) (file : List ℕ) (range : Option (Range ℕ _F)) (read : ℕ) (of : PlanVersion) (offset : ℕ) (terms : List XorbReconstructionTerm) (ls : List PlannedLink)
+  pub links : (version : PlanVersion) (file : List ℕ) (range : Option (Range ℕ _F)) (read : ℕ) (of : PlanVersion) (offset : ℕ) (terms : List XorbReconstructionTerm) (ls : List LinkModel)
       → act ≡ Plan version file range → result ≡ ok_reply (Planned read of offset terms ls) → HoldsMet s.store version file range at of offset terms ls
   pub refused : (why : Refusal) → result ≡ err_why why → t ≡ s
   pub cause : (why : Refusal) → result ≡ err_why why → HasCause s at act why
@@ -176,7 +173,7 @@ module _ (facts : PlanFacts) (s : State) (at : ℕ) (version : PlanVersion) (fil
   abbrev answer : PlanModel → SecondPlan
   answer plan = answer_of version s.store.max_ranges at plan
 
-  abbrev links_at : PlanModel → List PlannedLink
+  abbrev links_at : PlanModel → List LinkModel
   links_at plan = answered_links version s.store.max_ranges at plan
 
   met : (plan : PlanModel) → Reached s.store file range plan → HoldsMet s.store version file range at version (answer plan).offset_into_first_range (answer plan).terms (links_at plan)
@@ -196,8 +193,8 @@ module _ (facts : PlanFacts) (s : State) (at : ℕ) (version : PlanVersion) (fil
     once = once version s.store.max_ranges at h.serves.planned;
   }
 
-  links_met : (plan : PlanModel) (l : PlannedLink) (ls : List PlannedLink) → Reached s.store file range plan → links_at plan ≡ l ∷ ls
-      → (version' : PlanVersion) (file' : List ℕ) (range' : Option (Range ℕ _F)) (read : ℕ) (of : PlanVersion) (offset : ℕ) (terms : List XorbReconstructionTerm) (ks : List PlannedLink)
+  links_met : (plan : PlanModel) (l : LinkModel) (ls : List LinkModel) → Reached s.store file range plan → links_at plan ≡ l ∷ ls
+      → (version' : PlanVersion) (file' : List ℕ) (range' : Option (Range ℕ _F)) (read : ℕ) (of : PlanVersion) (offset : ℕ) (terms : List XorbReconstructionTerm) (ks : List LinkModel)
       → Plan version file range ≡ Plan version' file' range' → ok_reply (Planned s.next version (answer plan).offset_into_first_range (answer plan).terms (l ∷ ls)) ≡ ok_reply (Planned read of offset terms ks) → HoldsMet s.store version' file' range' at of offset terms ks
   links_met plan l ls h is version' file' range' read of offset terms ks a e =
       let v : version ≡ version' = cc in
@@ -213,9 +210,9 @@ module _ (facts : PlanFacts) (s : State) (at : ℕ) (version : PlanVersion) (fil
       (subst (λ (x : PlanVersion). HoldsMet s.store version file range at x offset terms ks) w
       (subst (λ (x : ℕ). HoldsMet s.store version file range at version x terms ks) o
       (subst (λ (x : List XorbReconstructionTerm). HoldsMet s.store version file range at version (answer plan).offset_into_first_range x ks) t
-      (subst (λ (x : List PlannedLink). HoldsMet s.store version file range at version (answer plan).offset_into_first_range (answer plan).terms x) (is ∙ k) (met plan h)))))))
+      (subst (λ (x : List LinkModel). HoldsMet s.store version file range at version (answer plan).offset_into_first_range (answer plan).terms x) (is ∙ k) (met plan h)))))))
 
-  opened_kept : (plan : PlanModel) (l : PlannedLink) (ls : List PlannedLink) → Reached s.store file range plan → links_at plan ≡ l ∷ ls
+  opened_kept : (plan : PlanModel) (l : LinkModel) (ls : List LinkModel) → Reached s.store file range plan → links_at plan ≡ l ∷ ls
       → PlanKept (Ok (Planned s.next version (answer plan).offset_into_first_range (answer plan).terms (l ∷ ls)), opened s (read_of (answer plan) range at))
   opened_kept plan l ls h is =
       let new : OpenRead = read_of (answer plan) range at in
@@ -240,7 +237,7 @@ module _ (facts : PlanFacts) (s : State) (at : ℕ) (version : PlanVersion) (fil
         };
       }
 
-  links_kept : (plan : PlanModel) (ls : List PlannedLink) → Reached s.store file range plan → links_at plan ≡ ls → PlanKept (open_links s version (answer plan) range at ls)
+  links_kept : (plan : PlanModel) (ls : List LinkModel) → Reached s.store file range plan → links_at plan ≡ ls → PlanKept (open_links s version (answer plan) range at ls)
   links_kept plan [] h is = empty_kept
   links_kept plan (l ∷ ls) h is = opened_kept plan l ls h is
 

@@ -9,7 +9,7 @@ use Rattle.std.proofs.lemmas.List.Sums.{sum_by-cons}
 use Rattle.xet_types.specs.declared.error.Refusal.{Refusal}
 use Rattle.xet_plan.specs.FileBytes.{Content}
 use Rattle.xet_store.specs.StoreModel.{Chunks, stored}
-use Rattle.xet_service.specs.declared.reply.PlannedLink.{PlannedLink}
+use Rattle.xet_service.specs.Links.{LinkModel}
 use Rattle.xet_service.specs.declared.reply.Reply.TheVariants.{Fetched, Finished}
 use Rattle.xet_service.specs.declared.read.OpenRead.{OpenRead}
 use Rattle.xet_service.specs.declared.reader.link.ReadLink.{ReadLink}
@@ -33,7 +33,7 @@ is_open l = is_none l.got
 abbrev pub hash_of : ReadLink → List ℕ
 hash_of l = l.hash
 
-abbrev pub link_hash : PlannedLink → List ℕ
+abbrev pub link_hash : LinkModel → List ℕ
 link_hash l = l.hash
 
 pub mask_take : (ls : List ReadLink) (n : ℕ) (got : List Chunks) → map is_open (with_got ls n (slice_get ls n) got) ≡ set (map is_open ls) n false
@@ -73,7 +73,7 @@ get_map f [] n x e = absurd cc
 get_map f (y ∷ xs) zero x e = ap (λ (z : _). Some (f z)) (some_is y x e)
 get_map f (y ∷ xs) (suc n) x e = get_map f xs n x e
 
-pub same_hash_at : (ls : List ReadLink) (ps : List PlannedLink) (n : ℕ) (l : ReadLink) (p : PlannedLink) → map hash_of ls ≡ map link_hash ps → slice_get ls n ≡ Some l → slice_get ps n ≡ Some p → l.hash ≡ p.hash
+pub same_hash_at : (ls : List ReadLink) (ps : List LinkModel) (n : ℕ) (l : ReadLink) (p : LinkModel) → map hash_of ls ≡ map link_hash ps → slice_get ls n ≡ Some l → slice_get ps n ≡ Some p → l.hash ≡ p.hash
 same_hash_at ls ps n l p is a b = some_is l.hash p.hash (sym (get_map hash_of ls n l a) ∙ ap (λ (hs : List (List ℕ)). slice_get hs n) is ∙ get_map link_hash ps n p b)
 
 pub mask_count : (ls : List ReadLink) → count_left ls ≡ count_true (map is_open ls)
@@ -87,7 +87,7 @@ mask_count (x ∷ ls) = let sums = sum_by-cons left_one x ls in of (is_open x) (
 -- ---- a read that is followed
 
 -- the read is open, and these links are left
-pub record IsOpen (s : State) (n stamp : ℕ) (links : List PlannedLink) (left : List Bool) : Type 0 where
+pub record IsOpen (s : State) (n stamp : ℕ) (links : List LinkModel) (left : List Bool) : Type 0 where
   pub read : OpenRead
   pub found : get s.reads n ≡ Some read
   pub stamped : read.stamp ≡ stamp
@@ -95,18 +95,18 @@ pub record IsOpen (s : State) (n stamp : ℕ) (links : List PlannedLink) (left :
   pub hashes : map hash_of read.reader.links ≡ map link_hash links
 
 -- it is open, or none is left
-abbrev pub Follows : State → ℕ → ℕ → List PlannedLink → List Bool → Type 0
+abbrev pub Follows : State → ℕ → ℕ → List LinkModel → List Bool → Type 0
 Follows s n stamp links left = IsOpen s n stamp links left ⊎ (count_true left ≡ 0)
 
 pub put_here : (reads : Reads) (n : ℕ) (x : OpenRead) → get (insert reads n x) n ≡ Some x
 put_here reads n x = get-insert nat_cmp_total reads n x n ∙ ap (λ (b : Bool). cond b (Some x) (get reads n)) (ap is_eq (tied_itself nat_cmp_total n))
 
 -- what a fetch of a left link comes to
-pub record FetchGoes (e : Event) (n stamp : ℕ) (links : List PlannedLink) (left : List Bool) (link : ℕ) : Type 0 where
+pub record FetchGoes (e : Event) (n stamp : ℕ) (links : List LinkModel) (left : List Bool) (link : ℕ) : Type 0 where
   pub answered : Answered n link (count_true (set left link false)) e.reply
   pub follows : Follows e.after.state n stamp links (set left link false)
 
-module _ (m : Content) (e : Event) (n stamp : ℕ) (links : List PlannedLink) (left : List Bool) (link : ℕ) (agree : AgreesWith m e.before.state.store) (good : Goods m e.before) (valid : IsFetched e stamp links left link) (o : IsOpen e.before.state n stamp links left) where
+module _ (m : Content) (e : Event) (n stamp : ℕ) (links : List LinkModel) (left : List Bool) (link : ℕ) (agree : AgreesWith m e.before.state.store) (good : Goods m e.before) (valid : IsFetched e stamp links left link) (o : IsOpen e.before.state n stamp links left) where
   abbrev r : OpenRead
   r = o.read
 

@@ -19,14 +19,13 @@ use Rattle.xet_store.specs.StoreModel.{StoreModel, listing, known_of}
 use Rattle.xet_service.specs.declared.step.Act.TheVariants.{Plan, Fetch}
 use Rattle.xet_service.specs.declared.step.Step.{Step}
 use Rattle.xet_service.specs.declared.step.PlanVersion.{PlanVersion}
-use Rattle.xet_service.specs.declared.reply.PlannedLink.{PlannedLink}
 use Rattle.xet_service.specs.declared.reply.CacheNote.{CacheNote}
 use Rattle.xet_service.specs.declared.reply.Reply.{Reply}
 use Rattle.xet_service.specs.declared.reply.Reply.TheVariants.{NoPlan, Done, Planned, Fetched, Finished, Refused}
 use Rattle.xet_types.specs.Faults.{Rose}
 use Rattle.xet_types.specs.declared.error.Refusal.TheVariants.{IOError}
 use Rattle.xet_service.specs.declared.step.Act.TheVariants.{Abandon}
-use Rattle.xet_service.specs.Links.{planned_links, answer_of}
+use Rattle.xet_service.specs.Links.{LinkModel, planned_links, answer_of}
 use Rattle.xet_service.specs.World.{State, IsInOrder}
 use Rattle.xet_service.specs.Runs.{World, world, Event, IsRun}
 use Rattle.xet_service.specs.Causes.{HasCause, PlansNothing, IsLeft}
@@ -40,22 +39,22 @@ abbrev pub RangesHave : List XorbRangeDescriptor → ℕ → Type 0
 RangesHave [] k = ⊥
 RangesHave (r ∷ rs) k = ((r.chunks.start ≤ k) × (k < r.chunks.end)) ⊎ RangesHave rs k
 
-abbrev pub LinkHas : PlannedLink → List ℕ → ℕ → Type 0
+abbrev pub LinkHas : LinkModel → List ℕ → ℕ → Type 0
 LinkHas l hash k = (l.hash ≡ hash) × RangesHave l.ranges k
 
 -- chunk k of the xorb is one of a link's
-abbrev pub LinksHave : List PlannedLink → List ℕ → ℕ → Type 0
+abbrev pub LinksHave : List LinkModel → List ℕ → ℕ → Type 0
 LinksHave [] hash k = ⊥
 LinksHave (l ∷ ls) hash k = LinkHas l hash k ⊎ LinksHave ls hash k
 
 -- no two links have a chunk in common
-abbrev pub EachOnce : List PlannedLink → Type 0
+abbrev pub EachOnce : List LinkModel → Type 0
 EachOnce [] = Unit {0}
 EachOnce (l ∷ ls) = ((hash : List ℕ) (k : ℕ) → LinkHas l hash k → LinksHave ls hash k → ⊥) × EachOnce ls
 
 -- The file is live, the range begins inside, and the met segments agree. The reply has the version, the terms and the offset of the
 -- file's plan, and its links in this version; the links hold exactly the met chunks, each once.
-pub record HoldsMet (store : StoreModel) (version : PlanVersion) (file : List ℕ) (range : Option (Range ℕ _F)) (at : ℕ) (of : PlanVersion) (offset : ℕ) (terms : List XorbReconstructionTerm) (links : List PlannedLink) : Type 0 where
+pub record HoldsMet (store : StoreModel) (version : PlanVersion) (file : List ℕ) (range : Option (Range ℕ _F)) (at : ℕ) (of : PlanVersion) (offset : ℕ) (terms : List XorbReconstructionTerm) (links : List LinkModel) : Type 0 where
   pub segments : List Segment
   pub clip : Interval
   pub plan : PlanModel
@@ -78,7 +77,7 @@ Finishes e = (read : ℕ) (bytes : List ℕ) (wire : ℕ) (note : CacheNote) →
 
 -- A plan's links hold exactly the chunks that meet its range, each once.
 abbrev pub LinksExactly : Event → Type 0
-LinksExactly e = (version : PlanVersion) (file : List ℕ) (range : Option (Range ℕ _F)) (read : ℕ) (of : PlanVersion) (offset : ℕ) (terms : List XorbReconstructionTerm) (ls : List PlannedLink)
+LinksExactly e = (version : PlanVersion) (file : List ℕ) (range : Option (Range ℕ _F)) (read : ℕ) (of : PlanVersion) (offset : ℕ) (terms : List XorbReconstructionTerm) (ls : List LinkModel)
     → e.step.act ≡ Plan version file range → e.reply ≡ Planned read of offset terms ls → HoldsMet e.before.state.store version file range e.step.at of offset terms ls
 
 -- A refused step changes neither store nor open reads.

@@ -1,6 +1,5 @@
 pub mod Links
 pub mod RunLinks
-pub mod LinkTexts
 pub mod LinkForms
 pub mod Bodies
 pub mod World

@@ -12,7 +12,7 @@ use Rattle.xet_store.specs.TermData.{is_expired}
 use Rattle.xet_service.specs.declared.step.Act.{Act}
 use Rattle.xet_service.specs.declared.step.Act.TheVariants.{Plan, Fetch, Abandon, CheckReadable}
 use Rattle.xet_service.specs.declared.step.PlanVersion.{PlanVersion}
-use Rattle.xet_service.specs.declared.reply.PlannedLink.{PlannedLink}
+use Rattle.xet_service.specs.Links.{LinkModel}
 use Rattle.xet_service.specs.declared.reply.Reply.{Reply}
 use Rattle.xet_service.specs.declared.reply.Reply.TheVariants.{Done, Planned, Finished}
 use Rattle.xet_service.specs.Steps.{used_up, no_note}
@@ -79,7 +79,7 @@ BringsRest n bytes left (e ∷ es) = BringsAt n bytes left e.reply e.step.act ×
 pub record IsReadThrough (m : StoreModel) (version : PlanVersion) (file : List ℕ) (range : Option (Range ℕ _F)) (e : Event) (es : List Event) : Type 0 where
   pub offset : ℕ
   pub terms : List XorbReconstructionTerm
-  pub links : List PlannedLink
+  pub links : List LinkModel
   pub reply : e.reply ≡ Planned e.before.state.next version offset terms links
   pub some : 0 < length links
   pub bytes : List ℕ

@@ -25,13 +25,12 @@ use Rattle.xet_service.specs.declared.step.Act.{Act}
 use Rattle.xet_service.specs.declared.step.Act.TheVariants.{UploadXorb, UploadShard, Plan, Fetch, Abandon, HideFile, DeleteShard, DeleteXorb, SetExpiration, SetMaxRanges, FileSize, FileData, SetDedupExpiration, DedupQuery, RemoveDedup, ListXorbs, ListShards, ListFiles, CheckIntegrity, CheckReachable, CheckReadable, InsertRandomXorb, Batch, InsertLazyFile}
 use Rattle.xet_service.specs.declared.step.PlanVersion.{PlanVersion}
 use Rattle.xet_service.specs.declared.reply.CacheNote.{CacheNote}
-use Rattle.xet_service.specs.declared.reply.PlannedLink.{PlannedLink}
 use Rattle.xet_service.specs.declared.reply.Reply.{Reply}
 use Rattle.xet_service.specs.declared.reply.Reply.TheVariants.{Uploaded, ShardTaken, NoPlan, Done, Planned, Fetched, Finished, NoShard, ShardBytes, Size, Data, Hashes, Files, Random, Lazy}
 use Rattle.xet_service.specs.declared.reply.Reply.TheVariants as replies
 use Rattle.xet_service.specs.declared.read.OpenRead.{OpenRead}
 use Rattle.xet_service.specs.declared.reader.link.ReadLink.{ReadLink}
-use Rattle.xet_service.specs.Links.{planned_links, batch_links, answer_of}
+use Rattle.xet_service.specs.Links.{LinkModel, planned_links, batch_links, answer_of}
 use Rattle.xet_service.specs.Bodies.{Body, type_text, SendsStored}
 use Rattle.xet_service.specs.Reading.{Reading, left_link, count_left, Accepts, bytes_read}
 use Rattle.xet_service.specs.ReadingPlans.{can_open, reading_of}
@@ -99,7 +98,7 @@ abbrev pub opened : State → OpenRead → State
 opened s r = record s { reads = insert s.reads s.next r; next = s.next + 1 }
 
 -- a plan without links finishes at once
-abbrev pub open_links : State → PlanVersion → SecondPlan → Option (Range ℕ _F) → ℕ → List PlannedLink → Outcome
+abbrev pub open_links : State → PlanVersion → SecondPlan → Option (Range ℕ _F) → ℕ → List LinkModel → Outcome
 open_links s version plan range at [] = (Ok (Finished s.next [] 0 no_note), record s { next = s.next + 1 })
 open_links s version plan range at (l ∷ ls) = (Ok (Planned s.next version plan.offset_into_first_range plan.terms (l ∷ ls)), opened s (read_of plan range at))
 

@@ -13,7 +13,7 @@ use Rattle.xet_store.specs.StoreModel.{StoreModel, Chunks, stored, listing, know
 use Rattle.xet_service.specs.declared.step.Act.{Act}
 use Rattle.xet_service.specs.declared.step.Act.TheVariants.{Plan, Fetch, Abandon}
 use Rattle.xet_service.specs.declared.step.PlanVersion.{PlanVersion}
-use Rattle.xet_service.specs.declared.reply.PlannedLink.{PlannedLink}
+use Rattle.xet_service.specs.Links.{LinkModel}
 use Rattle.xet_service.specs.declared.reply.Reply.{Reply}
 use Rattle.xet_service.specs.declared.reply.Reply.TheVariants.{Planned, Fetched, Finished}
 use Rattle.std.specs.FinMap as finmap
@@ -60,8 +60,8 @@ pub record IsServed (e : Event) (file : List ℕ) (range : Option (Range ℕ _F)
   pub quiet : IsQuiet e
 
 -- a fetch of a link that is left and not expired, while its xorb is stored and the outside doesn't fail
-pub record IsFetched (e : Event) (stamp : ℕ) (links : List PlannedLink) (left : List Bool) (link : ℕ) : Type 0 where
-  pub planned : PlannedLink
+pub record IsFetched (e : Event) (stamp : ℕ) (links : List LinkModel) (left : List Bool) (link : ℕ) : Type 0 where
+  pub planned : LinkModel
   pub is : slice_get links link ≡ Some planned
   pub left_it : slice_get left link ≡ Some true
   pub chunks : Chunks
@@ -70,7 +70,7 @@ pub record IsFetched (e : Event) (stamp : ℕ) (links : List PlannedLink) (left 
   pub quiet : IsQuiet e
 
 -- a step that names the read is such a fetch
-abbrev pub ValidAt : ℕ → ℕ → List PlannedLink → List Bool → Event → Act → Type 0
+abbrev pub ValidAt : ℕ → ℕ → List LinkModel → List Bool → Event → Act → Type 0
 ValidAt n stamp links left e (Fetch read link) = read ≡ n → IsFetched e stamp links left link
 ValidAt n stamp links left e (Abandon read) = read ≡ n → ⊥
 ValidAt n stamp links left e act = Unit {0}
@@ -80,7 +80,7 @@ left_after n left (Fetch read link) = if read == n then set left link false else
 left_after n left act = left
 
 -- from here on, the steps that name the read fetch its links
-abbrev pub IsValidRest : ℕ → ℕ → List PlannedLink → List Bool → List Event → Type 0
+abbrev pub IsValidRest : ℕ → ℕ → List LinkModel → List Bool → List Event → Type 0
 IsValidRest n stamp links left [] = Unit {0}
 IsValidRest n stamp links left (e ∷ es) = ValidAt n stamp links left e e.step.act × IsValidRest n stamp links (left_after n left e.step.act) es
 
@@ -112,14 +112,14 @@ abbrev pub AnsweredRest : ℕ → List Bool → List Event → Type 0
 AnsweredRest n left [] = Unit {0}
 AnsweredRest n left (e ∷ es) = AnsweredAt n left e.reply e.step.act × AnsweredRest n (left_after n left e.step.act) es
 
-abbrev pub all_left : List PlannedLink → List Bool
+abbrev pub all_left : List LinkModel → List Bool
 all_left links = map (λ l. true) links
 
 -- The plan answers its links, and where the steps after it are valid they succeed, the last fetch finishing the read.
 pub record IsReadWell (version : PlanVersion) (e : Event) (es : List Event) : Type 0 where
   pub offset : ℕ
   pub terms : List XorbReconstructionTerm
-  pub links : List PlannedLink
+  pub links : List LinkModel
   pub reply : e.reply ≡ Planned e.before.state.next version offset terms links
   pub some : 0 < length links
   pub rest : IsValidRest e.before.state.next e.step.at links (all_left links) es → AnsweredRest e.before.state.next (all_left links) es

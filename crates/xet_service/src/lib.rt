@@ -11,14 +11,12 @@ pub mod reply;
 pub mod run;
 pub mod service;
 pub mod step;
-pub mod text;
 
 pub use body::{TermBody, fetch_term_body};
 pub use pieces::{Pieces, Walk};
-pub use plan_links::{LinksForm, PlanLinks};
+pub use plan_links::{LinkWalk, PlanLinks, PlannedLink};
 pub use reader::Reader;
-pub use reply::{CacheNote, CacheRefusal, PlannedLink, Reply};
+pub use reply::{CacheNote, CacheRefusal, Reply};
 pub use run::run_steps;
 pub use service::ChunkService;
 pub use step::{Act, PlanVersion, Step};
-pub use text::{LinkText, Spelling};

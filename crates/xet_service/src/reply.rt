@@ -2,19 +2,7 @@
 use crate::pieces::Pieces;
 use crate::plan_links::PlanLinks;
 use crate::step::PlanVersion;
-use crate::text::LinkText;
-use xet_types::{Items, MerkleHash, Octets, Refusal, XorbRangeDescriptor, XorbReconstructionTerm};
-
-/// A link of a plan: what one fetch brings.
-#[derive(Debug, Drop)]
-pub struct PlannedLink {
-    /// The xorb.
-    pub hash: MerkleHash,
-    /// The link's text.
-    pub url: LinkText,
-    /// The chunks that it brings.
-    pub ranges: Items<XorbRangeDescriptor>,
-}
+use xet_types::{Items, MerkleHash, Octets, Refusal, XorbReconstructionTerm};
 
 /// Why a cache was of no use to a fetch.
 #[derive(Clone, Copy, Debug, PartialEq, Eq)]
@@ -100,7 +88,7 @@ pub enum Reply {
         /// The terms of each file, in order of its hash.
         files: Items<(MerkleHash, Items<XorbReconstructionTerm>)>,
         /// In order of xorb; those of a xorb as the asked files have them. Each has one range.
-        links: Items<PlannedLink>,
+        links: PlanLinks,
     },
     /// A generated file is stored.
     Lazy {

@@ -20,7 +20,6 @@ ghost use Rattle.xet_service.specs.Links.{answer_of};
 ghost use Rattle.xet_service.specs.Requests.{OfAct, OfPlanAct, OfFetch, OfLink, IsAnswer, IsOpenAt, IsWantedAt, IsLinkLeftAt, PutsAt, KeepsReads, TakesAt};
 
 use crate::body::{TermBody, fetch_term_body};
-use crate::links::links_of;
 use crate::pieces::Pieces;
 use crate::plan_links::PlanLinks;
 use crate::read::OpenRead;
@@ -229,15 +228,15 @@ fn upload_shard<K: Store>(
     store.upload_shard(alloc, content)
 }
 
-/// Plans that were taken together, as a reply, with links of version 1 that have the moment in milliseconds.
-fn batch_reply(alloc: Global, plans: FilePlans, at: u64) -> Result<Reply, OutOfMemory>
+/// Plans that were taken together, as a reply, with links of version 1 that have the moment in milliseconds. Takes no memory.
+fn batch_reply(plans: FilePlans, at: u64) -> Result<Reply, OutOfMemory>
     ensures reply { IfOk result (λ reply. reply ≡ batch_reply (batch_at at plans)) }
     ensures answers { IfOk result IsAnswer }
 {
-    let links = links_of(alloc, PlanVersion::V1, &plans.merged, 1, at)?;
+    let links = PlanLinks::from_runs(plans.merged, at)?;
     Ok(Reply::Batch {
         files: Items::from_vec(plans.files),
-        links: Items::from_vec(links),
+        links,
     })
 }
 
@@ -255,7 +254,7 @@ fn ask_batch<K: Store>(
     ensures cause { FailsOnlyByFault (K.Client.faults store.old) (K.Client.faults store.new) result }
 {
     let plans = store.plan_files(alloc, files)?;
-    let reply = batch_reply(alloc, plans, at)?;
+    let reply = batch_reply(plans, at)?;
     Ok(reply)
 }
 
@@ -340,7 +339,7 @@ impl<K> ChunkService<K> {
             return Err(ClientError::InvalidArguments);
         }
         let reader = Reader::of_plan(alloc, version, &plan, max, range)?;
-        let links = PlanLinks::of_plan(alloc, version, plan.merged, max, at)?;
+        let links = PlanLinks::of_plan(version, plan.merged, max, at)?;
         if links.is_empty() {
             self.next = read + 1;
             return Ok(Reply::Finished {

@@ -1,12 +1,13 @@
 //! Calls of the program over forms in memory.
 use super::*;
 use bytes::Bytes;
+use std::slice;
 use std::test::Fail;
 use xet_plan::MergedRange;
-use xet_service::{CacheNote, CacheRefusal, LinkText, Pieces, PlanLinks, PlanVersion, PlannedLink};
+use xet_service::{CacheNote, CacheRefusal, Pieces, PlanLinks, PlanVersion};
 use xet_types::{
-    ChunkRange, FileRange, FormatFault, HttpRange, Items, MemorySink, MemorySource, MerkleHash,
-    Octets, Refusal, XorbRangeDescriptor, XorbReconstructionTerm,
+    ChunkRange, FileRange, FormatFault, Items, MemorySink, MemorySource, MerkleHash, Refusal,
+    XorbReconstructionTerm,
 };
 
 /// How a call ends, as the text of its status, and how many bytes it writes.
@@ -84,6 +85,14 @@ fn faults_after_a_bad_line(rt: HostRuntime) -> Result<(), Fail> {
     Ok(())
 }
 
+/// Chunks of a xorb, and their bytes, whose end is excluded.
+fn run_of(start: u32, end: u32, from: u64, to: u64) -> MergedRange {
+    MergedRange {
+        chunk_range: ChunkRange::new(start, end),
+        byte_range: FileRange::new(from, to),
+    }
+}
+
 /// A reply for each line of the format, and what it prints.
 fn replies(alloc: Global) -> Result<Vec<Reply>, Fail> {
     let hash = MerkleHash::from_bytes([0xaa; 32]);
@@ -92,35 +101,27 @@ fn replies(alloc: Global) -> Result<Vec<Reply>, Fail> {
         stored: 2,
         refused: Some(CacheRefusal::BadRange),
     };
-    let range = |s, e, from, to| XorbRangeDescriptor {
-        chunks: ChunkRange::new(s, e),
-        bytes: HttpRange::new(from, to),
-    };
     let mut terms = Vec::new(alloc);
     terms.push(XorbReconstructionTerm {
         hash,
         unpacked_length: 3,
         range: ChunkRange::new(0, 1),
     })?;
-    let mut ranges = Vec::new(alloc);
-    ranges.push(range(0, 1, 0, 10))?;
-    ranges.push(range(2, 4, 20, 4294967296))?;
-    let mut links = Vec::new(alloc);
-    links.push(PlannedLink {
-        hash,
-        url: LinkText::from_text(Octets::from_vec(Vec::from_slice(alloc, b"url")?)?),
-        ranges: Items::from_vec(ranges),
-    })?;
+    let mut runs = Vec::new(alloc);
+    runs.push(run_of(0, 1, 0, 11))?;
+    runs.push(run_of(2, 4, 20, 4294967297))?;
+    let mut xorbs = Vec::new(alloc);
+    xorbs.push((hash, runs))?;
     let mut all = Vec::new(alloc);
     all.push(Reply::Uploaded(99))?;
     all.push(Reply::ShardTaken(true))?;
     all.push(Reply::NoPlan)?;
     all.push(Reply::Planned {
         read: 18446744073709551615,
-        version: PlanVersion::V1,
+        version: PlanVersion::V2,
         offset: 10,
         terms: Items::from_vec(terms),
-        links: PlanLinks::from_vec(links),
+        links: PlanLinks::of_plan(PlanVersion::V2, xorbs, 2, 0)?,
     })?;
     all.push(Reply::Fetched {
         read: 0,
@@ -152,9 +153,9 @@ const LINES: &str = "\
 xorb 99
 shard true
 none
-plan 18446744073709551615 v1 offset 10 terms 1 links 1
+plan 18446744073709551615 v2 offset 10 terms 1 links 1
 term aaaaaaaaaaaaaaaaaaaaaaaaaaaaaaaaaaaaaaaaaaaaaaaaaaaaaaaaaaaaaaaa 0-1 3
-link 0 url 0-1@0-10,2-4@20-4294967296
+link 0 YWFhYWFhYWFhYWFhYWFhYWFhYWFhYWFhYWFhYWFhYWFhYWFhYWFhYWFhYWFhYWFhYWFhYWFhYWFhYWFhYTowOjAtMTAsMjAtNDI5NDk2NzI5Ng 0-1@0-10,2-4@20-4294967296
 fetched 0 7 left 1 wire 11 hits 1 stored 2 refused bad-range
 finished 0 wire 0 hits 0 stored 0 refused none 616263ff
 refused format-shard
@@ -172,54 +173,92 @@ fn printed_lines(rt: HostRuntime) -> Result<(), Fail> {
     Ok(())
 }
 
-/// The links of version 1 of two runs of a xorb and one of another.
-fn first_links(alloc: Global) -> Result<PlanLinks, Fail> {
-    let run = |s, e, from, to| MergedRange {
-        chunk_range: ChunkRange::new(s, e),
-        byte_range: FileRange::new(from, to),
-    };
-    let mut two = Vec::new(alloc);
-    two.push(run(0, 1, 0, 11))?;
-    two.push(run(2, 4, 23, 46))?;
+/// Three runs of a xorb, and one of another.
+fn xorbs(alloc: Global) -> Result<Vec<(MerkleHash, Vec<MergedRange>)>, Fail> {
+    let mut three = Vec::new(alloc);
+    three.push(run_of(0, 1, 0, 11))?;
+    three.push(run_of(2, 4, 23, 46))?;
+    three.push(run_of(5, 6, 50, 60))?;
     let mut one = Vec::new(alloc);
-    one.push(run(1, 2, 9, 18))?;
+    one.push(run_of(1, 2, 9, 18))?;
     let mut xorbs = Vec::new(alloc);
-    xorbs.push((MerkleHash::from_bytes([0xaa; 32]), two))?;
+    xorbs.push((MerkleHash::from_bytes([0xaa; 32]), three))?;
     xorbs.push((MerkleHash::from_bytes([0xbb; 32]), one))?;
-    Ok(PlanLinks::from_runs(xorbs, 5)?)
+    Ok(xorbs)
 }
 
-/// What a plan of these links prints.
-fn printed_plan(alloc: Global, links: PlanLinks) -> Result<MemorySink, Fail> {
-    let mut all = Vec::new(alloc);
-    all.push(Reply::Planned {
+/// A plan of these links.
+fn planned(alloc: Global, version: PlanVersion, links: PlanLinks) -> Reply {
+    Reply::Planned {
         read: 0,
-        version: PlanVersion::V1,
+        version,
         offset: 0,
         terms: Items::from_vec(Vec::new(alloc)),
         links,
-    })?;
-    let mut sink = MemorySink::new(alloc, &[])?;
-    let _ = write_report(alloc, &mut sink, Report::Lines, &all);
-    Ok(sink)
+    }
+}
+
+/// Several files' plans of these links.
+fn batch(alloc: Global, links: PlanLinks) -> Reply {
+    Reply::Batch {
+        files: Items::from_vec(Vec::new(alloc)),
+        links,
+    }
 }
 
 const FIRST_LINKS: &str = "\
-plan 0 v1 offset 0 terms 0 links 3
+plan 0 v1 offset 0 terms 0 links 4
 link 0 aaaaaaaaaaaaaaaaaaaaaaaaaaaaaaaaaaaaaaaaaaaaaaaaaaaaaaaaaaaaaaaa:0:11:5 0-1@0-10
 link 1 aaaaaaaaaaaaaaaaaaaaaaaaaaaaaaaaaaaaaaaaaaaaaaaaaaaaaaaaaaaaaaaa:23:46:5 2-4@23-45
-link 2 bbbbbbbbbbbbbbbbbbbbbbbbbbbbbbbbbbbbbbbbbbbbbbbbbbbbbbbbbbbbbbbb:9:18:5 1-2@9-17
+link 2 aaaaaaaaaaaaaaaaaaaaaaaaaaaaaaaaaaaaaaaaaaaaaaaaaaaaaaaaaaaaaaaa:50:60:5 5-6@50-59
+link 3 bbbbbbbbbbbbbbbbbbbbbbbbbbbbbbbbbbbbbbbbbbbbbbbbbbbbbbbbbbbbbbbb:9:18:5 1-2@9-17
+";
+
+const SECOND_LINKS: &str = "\
+plan 0 v2 offset 0 terms 0 links 3
+link 0 YWFhYWFhYWFhYWFhYWFhYWFhYWFhYWFhYWFhYWFhYWFhYWFhYWFhYWFhYWFhYWFhYWFhYWFhYWFhYWFhYTo1OjAtMTAsMjMtNDU 0-1@0-10,2-4@23-45
+link 1 YWFhYWFhYWFhYWFhYWFhYWFhYWFhYWFhYWFhYWFhYWFhYWFhYWFhYWFhYWFhYWFhYWFhYWFhYWFhYWFhYTo1OjUwLTU5 5-6@50-59
+link 2 YmJiYmJiYmJiYmJiYmJiYmJiYmJiYmJiYmJiYmJiYmJiYmJiYmJiYmJiYmJiYmJiYmJiYmJiYmJiYmJiYjo1OjktMTc 1-2@9-17
+";
+
+const BATCH_LINKS: &str = "\
+batch files 0 links 4
+entry aaaaaaaaaaaaaaaaaaaaaaaaaaaaaaaaaaaaaaaaaaaaaaaaaaaaaaaaaaaaaaaa aaaaaaaaaaaaaaaaaaaaaaaaaaaaaaaaaaaaaaaaaaaaaaaaaaaaaaaaaaaaaaaa:0:11:5 0-1@0-10
+entry aaaaaaaaaaaaaaaaaaaaaaaaaaaaaaaaaaaaaaaaaaaaaaaaaaaaaaaaaaaaaaaa aaaaaaaaaaaaaaaaaaaaaaaaaaaaaaaaaaaaaaaaaaaaaaaaaaaaaaaaaaaaaaaa:23:46:5 2-4@23-45
+entry aaaaaaaaaaaaaaaaaaaaaaaaaaaaaaaaaaaaaaaaaaaaaaaaaaaaaaaaaaaaaaaa aaaaaaaaaaaaaaaaaaaaaaaaaaaaaaaaaaaaaaaaaaaaaaaaaaaaaaaaaaaaaaaa:50:60:5 5-6@50-59
+entry bbbbbbbbbbbbbbbbbbbbbbbbbbbbbbbbbbbbbbbbbbbbbbbbbbbbbbbbbbbbbbbb bbbbbbbbbbbbbbbbbbbbbbbbbbbbbbbbbbbbbbbbbbbbbbbbbbbbbbbbbbbbbbbb:9:18:5 1-2@9-17
 ";
 
 #[test]
 fn links_of_runs(rt: HostRuntime) -> Result<(), Fail> {
     let alloc = rt.alloc();
-    let kept = printed_plan(alloc, first_links(alloc)?)?;
-    assert_eq!(rt; std::str::from_utf8(kept.taken())?, FIRST_LINKS);
-    let made = first_links(alloc)?.into_vec(alloc)?;
-    assert_eq!(rt; made.len(), 3);
-    let printed = printed_plan(alloc, PlanLinks::from_vec(made))?;
-    assert_eq!(rt; std::str::from_utf8(printed.taken())?, FIRST_LINKS);
+    let first = PlanLinks::from_runs(xorbs(alloc)?, 5)?;
+    let second = PlanLinks::of_plan(PlanVersion::V2, xorbs(alloc)?, 2, 5)?;
+    let both = PlanLinks::from_runs(xorbs(alloc)?, 5)?;
+    let mut replies = Vec::new(alloc);
+    replies.push(planned(alloc, PlanVersion::V1, first))?;
+    replies.push(planned(alloc, PlanVersion::V2, second))?;
+    replies.push(batch(alloc, both))?;
+    let expected = [FIRST_LINKS, SECOND_LINKS, BATCH_LINKS];
+    for (reply, lines) in replies.iter().zip(expected) {
+        let mut sink = MemorySink::new(alloc, &[])?;
+        let status = write_report(alloc, &mut sink, Report::Lines, slice::from_ref(reply));
+        assert_eq!(rt; status, Status::Done);
+        assert_eq!(rt; std::str::from_utf8(sink.taken())?, lines);
+    }
+    Ok(())
+}
+
+/// Links of version 2, at most two runs to each.
+#[test]
+fn counted_links(rt: HostRuntime) -> Result<(), Fail> {
+    let alloc = rt.alloc();
+    let links = PlanLinks::of_plan(PlanVersion::V2, xorbs(alloc)?, 2, 5)?;
+    assert_eq!(rt; links.len(), 3);
+    assert_eq!(rt; links.is_empty(), false);
+    let none = PlanLinks::from_runs(Vec::new(alloc), 5)?;
+    assert_eq!(rt; none.len(), 0);
+    assert_eq!(rt; none.is_empty(), true);
     Ok(())
 }
 

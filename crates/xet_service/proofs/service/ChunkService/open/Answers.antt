@@ -30,7 +30,7 @@ returns-then-is_empty-clause-opens g c = λ m.
     let at = c.args.at in
     let plan : PlanModel = c.args.plan in
     let answer : SecondPlan = answer_of v max at plan in
-    let links : c.in_ok-links.links ≡ planned_links answer = links_are v max at plan c.in_ok-links.links (map ranges_shown c.plan.inside.merged.items) c.in_ok-links.ensures (ap (λ (p : PlanModel). p.merged) c.plan.view_is) in
+    let links : c.in_ok-links.links ≡ planned_links answer = links_are v max at plan c.in_ok-links.links (map ranges_shown c.plan.inside.merged.items) c.in_ok-links.ensures.links (ap (λ (p : PlanModel). p.merged) c.plan.view_is) in
     rw (c.new.ensures, c.no_note.ensures)
     (opens_done (state m s.reads s.next) v answer c.args.range at (free_is s.next c.if-read.false) c.in_ok-links.links (c.in_ok-reader.ensures at).0 links (none_of c.in_ok-links.links c.is_empty.result c.is_empty.ensures c.if-is_empty.true))
 
@@ -44,7 +44,7 @@ returns-clause-opens g c = λ m.
     let answer : SecondPlan = answer_of v max at plan in
     let offset : c.plan.inside.offset_into_first_range ≡ answer.offset_into_first_range = ap (λ (p : PlanModel). p.offset_into_first_range) c.plan.view_is ∙ sym (same_offset v max at plan) in
     let terms : c.plan.inside.terms.items ≡ answer.terms = ap (λ (p : PlanModel). p.terms) c.plan.view_is ∙ sym (same_terms v max at plan) in
-    let links : c.in_ok-links.links ≡ planned_links answer = links_are v max at plan c.in_ok-links.links (map ranges_shown c.plan.inside.merged.items) c.in_ok-links.ensures (ap (λ (p : PlanModel). p.merged) c.plan.view_is) in
+    let links : c.in_ok-links.links ≡ planned_links answer = links_are v max at plan c.in_ok-links.links (map ranges_shown c.plan.inside.merged.items) c.in_ok-links.ensures.links (ap (λ (p : PlanModel). p.merged) c.plan.view_is) in
     rw (offset, c.from_vec.ensures, terms)
     (opens (state m s.reads s.next) v answer c.args.range at c.in_ok-links.links c.in_ok-reader.reader c.insert.new.self (free_is s.next c.if-read.false) (c.in_ok-reader.ensures at) links
     (some_of c.in_ok-links.links c.is_empty.result c.is_empty.ensures c.if-is_empty.false) c.in_ok-insert.ensures.ok)

@@ -1,0 +1,11 @@
+use Rattle.std.proofs.Common.{List, sym, subst}
+use Rattle.xet_service.specs.Links.{LinkModel}
+use Rattle.xet_demo.specs.Pages.{Output, Prints, output}
+use Rattle.xet_demo.specs.Printed.{xorb_entries_text}
+use Rattle.xet_demo.proofs.Printing.{prints_then}
+use Rattle.xet_demo.proofs.print.print_xorb_entries.Goals as goal
+
+pub loop-link-preserved : goal.loop-link-preserved
+loop-link-preserved g c =
+    let here : Output = output (g.K.Sink.taken c.loop-link.sink) (g.K.Sink.faults c.loop-link.sink) c.loop-link.page in
+    λ out rest. c.loop-link.invariant out (subst (λ (ls : List LinkModel). Prints here out (xorb_entries_text ls)) (sym c.in-Some.ensures) (prints_then {a = here} c.print_xorb_entry.ensures rest))
