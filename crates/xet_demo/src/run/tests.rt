@@ -155,7 +155,7 @@ shard true
 none
 plan 18446744073709551615 v2 offset 10 terms 1 links 1
 term aaaaaaaaaaaaaaaaaaaaaaaaaaaaaaaaaaaaaaaaaaaaaaaaaaaaaaaaaaaaaaaa 0-1 3
-link 0 YWFhYWFhYWFhYWFhYWFhYWFhYWFhYWFhYWFhYWFhYWFhYWFhYWFhYWFhYWFhYWFhYWFhYWFhYWFhYWFhYTowOjAtMTAsMjAtNDI5NDk2NzI5Ng 0-1@0-10,2-4@20-4294967296
+link 0 YWFhYWFhYWFhYWFhYWFhYWFhYWFhYWFhYWFhYWFhYWFhYWFhYWFhYWFhYWFhYWFhYWFhYWFhYWFhYWFhYWFhYTowOjAtMTAsMjAtNDI5NDk2NzI5Ng 0-1@0-10,2-4@20-4294967296
 fetched 0 7 left 1 wire 11 hits 1 stored 2 refused bad-range
 finished 0 wire 0 hits 0 stored 0 refused none 616263ff
 refused format-shard
@@ -216,9 +216,9 @@ link 3 bbbbbbbbbbbbbbbbbbbbbbbbbbbbbbbbbbbbbbbbbbbbbbbbbbbbbbbbbbbbbbbb:9:18:5 1
 
 const SECOND_LINKS: &str = "\
 plan 0 v2 offset 0 terms 0 links 3
-link 0 YWFhYWFhYWFhYWFhYWFhYWFhYWFhYWFhYWFhYWFhYWFhYWFhYWFhYWFhYWFhYWFhYWFhYWFhYWFhYWFhYTo1OjAtMTAsMjMtNDU 0-1@0-10,2-4@23-45
-link 1 YWFhYWFhYWFhYWFhYWFhYWFhYWFhYWFhYWFhYWFhYWFhYWFhYWFhYWFhYWFhYWFhYWFhYWFhYWFhYWFhYTo1OjUwLTU5 5-6@50-59
-link 2 YmJiYmJiYmJiYmJiYmJiYmJiYmJiYmJiYmJiYmJiYmJiYmJiYmJiYmJiYmJiYmJiYmJiYmJiYmJiYmJiYjo1OjktMTc 1-2@9-17
+link 0 YWFhYWFhYWFhYWFhYWFhYWFhYWFhYWFhYWFhYWFhYWFhYWFhYWFhYWFhYWFhYWFhYWFhYWFhYWFhYWFhYWFhYTo1OjAtMTAsMjMtNDU 0-1@0-10,2-4@23-45
+link 1 YWFhYWFhYWFhYWFhYWFhYWFhYWFhYWFhYWFhYWFhYWFhYWFhYWFhYWFhYWFhYWFhYWFhYWFhYWFhYWFhYWFhYTo1OjUwLTU5 5-6@50-59
+link 2 YmJiYmJiYmJiYmJiYmJiYmJiYmJiYmJiYmJiYmJiYmJiYmJiYmJiYmJiYmJiYmJiYmJiYmJiYmJiYmJiYmJiYjo1OjktMTc 1-2@9-17
 ";
 
 const BATCH_LINKS: &str = "\
