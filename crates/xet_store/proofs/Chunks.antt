@@ -169,3 +169,10 @@ range_ends xs s e k last is from upto =
           take_all (k - s) (drop s xs) (omega (arith, long, is, from, l)) ∙ sym (take_all (e - s) (drop s xs) (omega (arith, long, l))))
       | inr l ↦ ap (λ n. take n (drop s xs)) (let same : k - s ≡ e - s = omega (arith, is, from, upto, l) in same)
     ]
+
+-- a range of one chunk that is there
+pub one_of_range : (xs : Chunks) (s e last : ℕ) (d : List ℕ) → last ≡ min e (length xs) → last - s ≡ 1 → slice_range xs s e ≡ get_or xs s d ∷ []
+one_of_range xs s e last d is one =
+    sym (range_ends xs s e (s + 1) last is (omega (arith, one)) (omega (arith, one)))
+    ∙ range_more xs s s d (omega arith) (omega (arith, one, is))
+    ∙ ap (λ n. take n (drop s xs) ++ get_or xs s d ∷ []) (let none : s - s ≡ 0 = omega arith in none)

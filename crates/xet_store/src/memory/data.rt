@@ -1,5 +1,5 @@
 //! The bytes of a planned part of a file.
-ghost use Rattle.std.specs.Prelude.{◌≡◌, ◌++◌, IfOk, OnOk, take, drop};
+ghost use Rattle.std.specs.Prelude.{◌≡◌, ◌++◌, IfOk, IfSome, OnOk, take, drop};
 ghost use Rattle.std.specs.List.{flat_map};
 ghost use Rattle.std.specs.FinMap.{get};
 ghost use Rattle.xet_plan.specs.FileBytes.{term_bytes, assembled};
@@ -36,7 +36,23 @@ fn joined(
     Ok(bytes)
 }
 
-/// The chunks of the terms, joined once, less an offset and cut to a length.
+/// The one chunk of the terms, which isn't copied; none where they have none or more.
+fn only_chunk(
+    xorbs: &ByHash<StoredXorb>,
+    terms: &[XorbReconstructionTerm],
+) -> Result<Option<Bytes>, OutOfMemory>
+    ensures { IfOk result (λ only. IfSome only (λ chunk. chunk ≡ flat_map (term_bytes (get xorbs.now)) terms.now)) }
+{
+    let [term] = terms else {
+        return Ok(None);
+    };
+    match xorbs.get(&term.hash) {
+        Some(xorb) => xorb.only(term.range),
+        None => Ok(None),
+    }
+}
+
+/// The chunks of the terms less an offset and cut to a length. They are joined once; one chunk alone isn't copied.
 pub fn assemble(
     alloc: Global,
     xorbs: &ByHash<StoredXorb>,
@@ -46,7 +62,10 @@ pub fn assemble(
 ) -> Result<Bytes, OutOfMemory>
     ensures { IfOk result (λ bytes. bytes ≡ assembled (get xorbs.now) terms.now offset length) }
 {
-    let joined = Bytes::from_vec(joined(alloc, xorbs, terms)?)?;
+    let joined = match only_chunk(xorbs, terms)? {
+        Some(chunk) => chunk,
+        None => Bytes::from_vec(joined(alloc, xorbs, terms)?)?,
+    };
     let all = joined.len() as u64;
     let start = offset.min(all);
     let end = start.saturating_add(length).min(all);

@@ -1,5 +1,5 @@
 //! A stored xorb.
-ghost use Rattle.std.specs.Prelude.{◌≡◌, ◌<◌, ◌≤◌, ◌^◌, ◌++◌, [], length, sum, slice_index_or, slice_range, IfOk, OnOk, ⊤};
+ghost use Rattle.std.specs.Prelude.{◌≡◌, ◌<◌, ◌≤◌, ◌^◌, ◌++◌, [], length, sum, slice_index_or, slice_range, IfOk, IfSome, OnOk, ⊤};
 ghost use Rattle.std.specs.List.{concat};
 ghost use Rattle.std.specs.Arc.{arc_value};
 ghost use Rattle.xet_types.specs.Names.{xorb_name};
@@ -130,6 +130,19 @@ impl StoredXorb {
         }
         Ok(())
     }
+
+    /// The one chunk of a range that is there, which isn't copied; none where there are none or more.
+    pub fn only(&self, chunks: ChunkRange) -> Result<Option<Bytes>, OutOfMemory>
+        ensures { IfOk result (λ only. IfSome only (λ chunk. chunk ≡ concat (slice_range self.now chunks.start chunks.end))) }
+    {
+        let last = chunks.end.min(self.object.num_chunks());
+        if last.saturating_sub(chunks.start) != 1 {
+            return Ok(None);
+        }
+        let (start, end) = self.place(chunks.start);
+        Ok(Some(self.text.slice(start..end)?))
+    }
+
     /// How many bytes the chunks have together.
     pub fn length(&self) -> u32
         ensures { result ≡ sum (lengths_of self.now) }
