@@ -54,7 +54,23 @@ fn in_order(mut cuts: Vec<Cut>) -> Vec<Cut>
     cuts
 }
 
-/// Of cuts in order, those that overlap or touch made one, and those of one hash in one list.
+/// How many runs the cuts of the first one's xorb make, of cuts in order.
+fn count_runs(first: &Cut, rest: &[Cut]) -> usize {
+    let mut count = 1usize;
+    let mut end = first.end;
+    for next in rest {
+        if next.hash != first.hash {
+            break;
+        }
+        if next.start > end {
+            count = count.saturating_add(1);
+        }
+        end = end.max(next.end);
+    }
+    count
+}
+
+/// Of cuts in order, those that overlap or touch made one, and those of one hash in one list, whose room is its size.
 #[tactic(auto, using(crate::proofs::Heads::first_merged))]
 fn merged_by_hash(
     alloc: Global,
@@ -66,9 +82,9 @@ fn merged_by_hash(
         return Ok(Vec::new(alloc));
     };
     let mut groups = Vec::with_capacity(alloc, 1)?;
-    let mut ranges = Vec::with_capacity(alloc, 1)?;
+    let mut ranges = Vec::with_capacity(alloc, count_runs(first, rest))?;
     let mut current = *first;
-    for next in rest {
+    for (k, next) in rest.iter().enumerate() {
         if joins(&current, next) {
             current = joined(&current, next);
             continue;
@@ -79,7 +95,7 @@ fn merged_by_hash(
             continue;
         }
         groups.push((current.hash, ranges))?;
-        ranges = Vec::with_capacity(alloc, 1)?;
+        ranges = Vec::with_capacity(alloc, count_runs(next, &rest[k + 1..]))?;
         current = *next;
     }
     ranges.push(range_of(&current))?;
