@@ -543,8 +543,8 @@ pub fn print_reply<K: Sink>(page: &mut Page, sink: &mut K, reply: &Reply)
         Reply::NoPlan => print_none(page, sink),
         Reply::Done => print_done(page, sink),
         Reply::Planned {
-            read,
             version,
+            read,
             offset,
             terms,
             links,

@@ -199,7 +199,7 @@ module _ (facts : GoodFacts) (m : Content) (w : World) (version : PlanVersion) (
       }
 
   open_steps : (plan : PlanModel) (l : LinkModel) (ls : List LinkModel) → Reached s.store file range plan → links_at plan ≡ l ∷ ls
-      → Ends (Ok (Planned s.next version (answer plan).offset_into_first_range (answer plan).terms (l ∷ ls)), opened s (read_of (answer plan) range at))
+      → Ends (Ok (Planned version s.next (answer plan).offset_into_first_range (answer plan).terms (l ∷ ls)), opened s (read_of (answer plan) range at))
   open_steps plan l ls f links h =
       let read : OpenRead = read_of (answer plan) range at in
       let same : opened s read ≡ new.state = ap (λ (o : Outcome). o.1) h in
@@ -214,7 +214,7 @@ module _ (facts : GoodFacts) (m : Content) (w : World) (version : PlanVersion) (
       record {
         good = more (insert s.reads s.next read) (sym (ap (λ (t : State). t.reads) same)) (λ n.
             by_put (GoodAt m new n) s.reads s.next read n (λ e. subst (λ (k : ℕ). IsGoodAt m new k read) (sym e) fresh) (λ apart. old n));
-        finished = λ n b wire note g. absurd (let k : Planned s.next version (answer plan).offset_into_first_range (answer plan).terms (l ∷ ls) ≡ Finished n b wire note = sym (reply_is reply (Planned s.next version (answer plan).offset_into_first_range (answer plan).terms (l ∷ ls)) (sym (ap (λ (o : Outcome). o.0) h))) ∙ g in cc);
+        finished = λ n b wire note g. absurd (let k : Planned version s.next (answer plan).offset_into_first_range (answer plan).terms (l ∷ ls) ≡ Finished n b wire note = sym (reply_is reply (Planned version s.next (answer plan).offset_into_first_range (answer plan).terms (l ∷ ls)) (sym (ap (λ (o : Outcome). o.0) h))) ∙ g in cc);
       }
 
   links_steps : (plan : PlanModel) (ls : List LinkModel) → Reached s.store file range plan → links_at plan ≡ ls → Ends (open_links s version (answer plan) range at ls)

@@ -28,7 +28,7 @@ reply_is (Uploaded n) x e = cc
 reply_is (ShardTaken b) x e = cc
 reply_is NoPlan x e = cc
 reply_is Done x e = cc
-reply_is (Planned n v o t l) x e = cc
+reply_is (Planned v n o t l) x e = cc
 reply_is (Fetched n l c w k) x e = cc
 reply_is (Finished n b w k) x e = cc
 reply_is NoShard x e = cc
@@ -47,7 +47,7 @@ refusal_is (Uploaded n) x e = absurd cc
 refusal_is (ShardTaken b) x e = absurd cc
 refusal_is NoPlan x e = absurd cc
 refusal_is Done x e = absurd cc
-refusal_is (Planned n v o t l) x e = absurd cc
+refusal_is (Planned v n o t l) x e = absurd cc
 refusal_is (Fetched n l c w k) x e = absurd cc
 refusal_is (Finished n b w k) x e = absurd cc
 refusal_is NoShard x e = absurd cc
@@ -104,7 +104,7 @@ module _ (facts : PlanFacts) (e : Event) where
   fails_keeps : Fails e.before.state e.before.faults e.step e.reply e.after.state e.after.faults → IsInOrder e.before.state → Keeps e × IsInOrder e.after.state
   fails_keeps h o = (
     record {
-      links = λ version file range read of offset terms ls a r. absurd (let f : ◌≡◌ {A = Reply} (Refused IOError) (Planned read of offset terms ls) = sym h.reply_is ∙ r in cc);
+      links = λ version file range read of offset terms ls a r. absurd (let f : ◌≡◌ {A = Reply} (Refused IOError) (Planned of read offset terms ls) = sym h.reply_is ∙ r in cc);
       refused = λ why r. h.same;
       cause = λ why r. let f : ◌≡◌ {A = Reply} (Refused IOError) (Refused why) = sym h.reply_is ∙ r in let same : IOError ≡ why = cc in subst (Cause e) same h.rose;
       no_plan = λ r. absurd (let f : ◌≡◌ {A = Reply} (Refused IOError) NoPlan = sym h.reply_is ∙ r in cc);

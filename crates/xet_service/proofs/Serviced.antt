@@ -128,7 +128,7 @@ pub record Opened (version : PlanVersion) (e : Event) (file : List ℕ) (range :
   pub offset : ℕ
   pub terms : List XorbReconstructionTerm
   pub links : List LinkModel
-  pub reply : e.reply ≡ Planned e.before.state.next version offset terms links
+  pub reply : e.reply ≡ Planned version e.before.state.next offset terms links
   pub some : 0 < length links
   pub open_it : IsOpen e.after.state e.before.state.next e.step.at links (all_left links)
   -- over any map that gives the store's xorbs
@@ -171,7 +171,7 @@ module _ (e : Event) (version : PlanVersion) (file : List ℕ) (range : Option (
         offset = second.offset_into_first_range;
         terms = second.terms;
         links = l ∷ ls;
-        reply = reply_is e.reply (Planned s.next version second.offset_into_first_range second.terms (l ∷ ls)) (sym (ap (λ (o : Outcome). o.0) h));
+        reply = reply_is e.reply (Planned version s.next second.offset_into_first_range second.terms (l ∷ ls)) (sym (ap (λ (o : Outcome). o.0) h));
         some = omega arith;
         open_it = record {
           read = read;

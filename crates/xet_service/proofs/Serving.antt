@@ -139,7 +139,7 @@ left_is reads read left held is w =
 
 -- ---- plans
 
-links_open : (s : State) (version : PlanVersion) (plan : SecondPlan) (range : Option (Range ℕ _F)) (at : ℕ) (ls : List LinkModel) → 0 < length ls → open_links s version plan range at ls ≡ (Ok (Planned s.next version plan.offset_into_first_range plan.terms ls), record s { reads = insert s.reads s.next (record { reader = reading_of plan range; stamp = at }); next = s.next + 1 })
+links_open : (s : State) (version : PlanVersion) (plan : SecondPlan) (range : Option (Range ℕ _F)) (at : ℕ) (ls : List LinkModel) → 0 < length ls → open_links s version plan range at ls ≡ (Ok (Planned version s.next plan.offset_into_first_range plan.terms ls), record s { reads = insert s.reads s.next (record { reader = reading_of plan range; stamp = at }); next = s.next + 1 })
 links_open s version plan range at [] lt = absurd (omega (arith, lt))
 links_open s version plan range at (l ∷ ls) lt = refl
 
@@ -155,13 +155,13 @@ some_of [] empty is not = let f : true ≡ false = sym is ∙ not in absurd cc
 some_of (x ∷ xs) empty is not = omega arith
 
 pub opens : (s : State) (version : PlanVersion) (plan : SecondPlan) (range : Option (Range ℕ _F)) (at : ℕ) (links : List LinkModel) (reader : Reading) (reads : Reads) → used_up s.next ≡ false → (can_open plan ≡ true) × (reader ≡ reading_of plan range) → links ≡ planned_links plan → 0 < length links
-    → reads ≡ insert s.reads s.next (record { reader = reader; stamp = at }) → open_plan s version plan range at ≡ (Ok (Planned s.next version plan.offset_into_first_range plan.terms links), record s { reads = reads; next = s.next + 1 })
+    → reads ≡ insert s.reads s.next (record { reader = reader; stamp = at }) → open_plan s version plan range at ≡ (Ok (Planned version s.next plan.offset_into_first_range plan.terms links), record s { reads = reads; next = s.next + 1 })
 opens s version plan range at links reader reads free can is some put =
     ap (λ (b : Bool). cond b (refuses s InvalidArguments) (cond (can_open plan) (open_links s version plan range at (planned_links plan)) (refuses s InvalidArguments))) free
     ∙ ap (λ (b : Bool). cond b (open_links s version plan range at (planned_links plan)) (refuses s InvalidArguments)) can.0
     ∙ ap (open_links s version plan range at) (sym is)
     ∙ links_open s version plan range at links some
-    ∙ ap (λ (m : Reads). (Ok (Planned s.next version plan.offset_into_first_range plan.terms links), record s { reads = m; next = s.next + 1 })) (sym (put ∙ ap (λ (r : Reading). insert s.reads s.next (record { reader = r; stamp = at })) can.1))
+    ∙ ap (λ (m : Reads). (Ok (Planned version s.next plan.offset_into_first_range plan.terms links), record s { reads = m; next = s.next + 1 })) (sym (put ∙ ap (λ (r : Reading). insert s.reads s.next (record { reader = r; stamp = at })) can.1))
 
 abbrev ok_reply : Reply → Result Reply Refusal
 ok_reply reply = Ok reply
@@ -169,7 +169,7 @@ ok_reply reply = Ok reply
 -- a refusal leaves the state
 links_err : (s t : State) (version : PlanVersion) (plan : SecondPlan) (range : Option (Range ℕ _F)) (at : ℕ) (why : Refusal) (ls : List LinkModel) → open_links s version plan range at ls ≡ (Err why, t) → t ≡ s
 links_err s t version plan range at why [] e = let f : ok_reply (Finished s.next [] 0 no_note) ≡ Err why = ap (λ (o : Outcome). o.0) e in absurd cc
-links_err s t version plan range at why (l ∷ ls) e = let f : ok_reply (Planned s.next version plan.offset_into_first_range plan.terms (l ∷ ls)) ≡ Err why = ap (λ (o : Outcome). o.0) e in absurd cc
+links_err s t version plan range at why (l ∷ ls) e = let f : ok_reply (Planned version s.next plan.offset_into_first_range plan.terms (l ∷ ls)) ≡ Err why = ap (λ (o : Outcome). o.0) e in absurd cc
 
 pub open_err : (s t : State) (version : PlanVersion) (plan : SecondPlan) (range : Option (Range ℕ _F)) (at : ℕ) (why : Refusal) → open_plan s version plan range at ≡ (Err why, t) → t ≡ s
 open_err s t version plan range at why e = of (used_up s.next) (can_open plan) e

@@ -68,7 +68,7 @@ IsEnded act read link result = ((act ≡ Fetch read link) × ((reply : Reply) ×
 -- what an act's answer and the state after it keep
 pub record Kept (s : State) (at : ℕ) (act : Act) (result : Result Reply Refusal) (t : State) : Type 0 where
   pub links : (version : PlanVersion) (file : List ℕ) (range : Option (Range ℕ _F)) (read : ℕ) (of : PlanVersion) (offset : ℕ) (terms : List XorbReconstructionTerm) (ls : List LinkModel)
-      → act ≡ Plan version file range → result ≡ ok_reply (Planned read of offset terms ls) → HoldsMet s.store version file range at of offset terms ls
+      → act ≡ Plan version file range → result ≡ ok_reply (Planned of read offset terms ls) → HoldsMet s.store version file range at of offset terms ls
   pub refused : (why : Refusal) → result ≡ err_why why → t ≡ s
   pub cause : (why : Refusal) → result ≡ err_why why → HasCause s at act why
   pub no_plan : result ≡ ok_reply NoPlan → PlansNothing s act
@@ -195,7 +195,7 @@ module _ (facts : PlanFacts) (s : State) (at : ℕ) (version : PlanVersion) (fil
 
   links_met : (plan : PlanModel) (l : LinkModel) (ls : List LinkModel) → Reached s.store file range plan → links_at plan ≡ l ∷ ls
       → (version' : PlanVersion) (file' : List ℕ) (range' : Option (Range ℕ _F)) (read : ℕ) (of : PlanVersion) (offset : ℕ) (terms : List XorbReconstructionTerm) (ks : List LinkModel)
-      → Plan version file range ≡ Plan version' file' range' → ok_reply (Planned s.next version (answer plan).offset_into_first_range (answer plan).terms (l ∷ ls)) ≡ ok_reply (Planned read of offset terms ks) → HoldsMet s.store version' file' range' at of offset terms ks
+      → Plan version file range ≡ Plan version' file' range' → ok_reply (Planned version s.next (answer plan).offset_into_first_range (answer plan).terms (l ∷ ls)) ≡ ok_reply (Planned of read offset terms ks) → HoldsMet s.store version' file' range' at of offset terms ks
   links_met plan l ls h is version' file' range' read of offset terms ks a e =
       let v : version ≡ version' = cc in
       let f : file ≡ file' = cc in
@@ -213,7 +213,7 @@ module _ (facts : PlanFacts) (s : State) (at : ℕ) (version : PlanVersion) (fil
       (subst (λ (x : List LinkModel). HoldsMet s.store version file range at version (answer plan).offset_into_first_range (answer plan).terms x) (is ∙ k) (met plan h)))))))
 
   opened_kept : (plan : PlanModel) (l : LinkModel) (ls : List LinkModel) → Reached s.store file range plan → links_at plan ≡ l ∷ ls
-      → PlanKept (Ok (Planned s.next version (answer plan).offset_into_first_range (answer plan).terms (l ∷ ls)), opened s (read_of (answer plan) range at))
+      → PlanKept (Ok (Planned version s.next (answer plan).offset_into_first_range (answer plan).terms (l ∷ ls)), opened s (read_of (answer plan) range at))
   opened_kept plan l ls h is =
       let new : OpenRead = read_of (answer plan) range at in
       record {

@@ -78,7 +78,7 @@ Finishes e = (read : ℕ) (bytes : List ℕ) (wire : ℕ) (note : CacheNote) →
 -- A plan's links hold exactly the chunks that meet its range, each once.
 abbrev pub LinksExactly : Event → Type 0
 LinksExactly e = (version : PlanVersion) (file : List ℕ) (range : Option (Range ℕ _F)) (read : ℕ) (of : PlanVersion) (offset : ℕ) (terms : List XorbReconstructionTerm) (ls : List LinkModel)
-    → e.step.act ≡ Plan version file range → e.reply ≡ Planned read of offset terms ls → HoldsMet e.before.state.store version file range e.step.at of offset terms ls
+    → e.step.act ≡ Plan version file range → e.reply ≡ Planned of read offset terms ls → HoldsMet e.before.state.store version file range e.step.at of offset terms ls
 
 -- A refused step changes neither store nor open reads.
 abbrev pub RefusedChangesNothing : Event → Type 0

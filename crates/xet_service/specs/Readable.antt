@@ -80,7 +80,7 @@ pub record IsReadThrough (m : StoreModel) (version : PlanVersion) (file : List �
   pub offset : ℕ
   pub terms : List XorbReconstructionTerm
   pub links : List LinkModel
-  pub reply : e.reply ≡ Planned e.before.state.next version offset terms links
+  pub reply : e.reply ≡ Planned version e.before.state.next offset terms links
   pub some : 0 < length links
   pub bytes : List ℕ
   pub of_file : file_bytes e.before.state.store file range ≡ Some bytes

@@ -100,7 +100,7 @@ opened s r = record s { reads = insert s.reads s.next r; next = s.next + 1 }
 -- a plan without links finishes at once
 abbrev pub open_links : State → PlanVersion → SecondPlan → Option (Range ℕ _F) → ℕ → List LinkModel → Outcome
 open_links s version plan range at [] = (Ok (Finished s.next [] 0 no_note), record s { next = s.next + 1 })
-open_links s version plan range at (l ∷ ls) = (Ok (Planned s.next version plan.offset_into_first_range plan.terms (l ∷ ls)), opened s (read_of plan range at))
+open_links s version plan range at (l ∷ ls) = (Ok (Planned version s.next plan.offset_into_first_range plan.terms (l ∷ ls)), opened s (read_of plan range at))
 
 -- a plan that gives no read is refused; no store's plan is such a one
 abbrev pub open_plan : State → PlanVersion → SecondPlan → Option (Range ℕ _F) → ℕ → Outcome

@@ -120,7 +120,7 @@ pub record IsReadWell (version : PlanVersion) (e : Event) (es : List Event) : Ty
   pub offset : ℕ
   pub terms : List XorbReconstructionTerm
   pub links : List LinkModel
-  pub reply : e.reply ≡ Planned e.before.state.next version offset terms links
+  pub reply : e.reply ≡ Planned version e.before.state.next offset terms links
   pub some : 0 < length links
   pub rest : IsValidRest e.before.state.next e.step.at links (all_left links) es → AnsweredRest e.before.state.next (all_left links) es
 

@@ -19,4 +19,4 @@ pub use reader::Reader;
 pub use reply::{CacheNote, CacheRefusal, Reply};
 pub use run::run_steps;
 pub use service::ChunkService;
-pub use step::{Act, PlanVersion, Step};
+pub use step::{Act, Content, PlanVersion, Step};

@@ -41,9 +41,9 @@ pub enum Reply {
     Done,
     /// A read is open.
     Planned {
+        version: PlanVersion,
         /// Its number.
         read: u64,
-        version: PlanVersion,
         /// Where the asked bytes begin in the terms' joined chunks.
         offset: u64,
         terms: Items<XorbReconstructionTerm>,

@@ -25,7 +25,7 @@ use crate::plan_links::PlanLinks;
 use crate::read::OpenRead;
 use crate::reader::Reader;
 use crate::reply::{CacheNote, Reply};
-use crate::step::{Act, PlanVersion};
+use crate::step::{Act, Content, PlanVersion};
 use bytes::Bytes;
 use std::alloc::Global;
 use xet_bytes::ByNumber;
@@ -198,7 +198,7 @@ fn upload_xorb<K: Store>(
     alloc: Global,
     store: &mut K,
     hash: &MerkleHash,
-    content: &Octets,
+    content: &Content,
 ) -> Result<u64, ClientError>
     ensures told { (m : StoreModel) → K.Client.told store.old ≡ Some m → Follows (UploadsXorb m hash.now content.now) m result (K.Client.told store.new) }
     ensures refusals { RefusedBy OfXorbUpload result }
@@ -218,7 +218,7 @@ fn upload_xorb<K: Store>(
 fn upload_shard<K: Store>(
     alloc: Global,
     store: &mut K,
-    content: &Octets,
+    content: &Content,
 ) -> Result<bool, ClientError>
     ensures told { (m : StoreModel) → K.Client.told store.old ≡ Some m → Follows (UploadsShard m content.now) m result (K.Client.told store.new) }
     ensures refusals { RefusedBy OfShardUpload result }
@@ -352,8 +352,8 @@ impl<K> ChunkService<K> {
         self.reads.insert(read, OpenRead { reader, stamp: at })?;
         self.next = read + 1;
         Ok(Reply::Planned {
-            read,
             version,
+            read,
             offset: plan.offset_into_first_range,
             terms: Items::from_vec(plan.terms),
             links,

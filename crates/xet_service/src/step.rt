@@ -1,11 +1,49 @@
 //! What a reader or a writer asks.
-use xet_types::{FileRange, Items, MerkleHash, Octets};
+ghost use Rattle.std.specs.Prelude.{◌≡◌, IfOk};
+
+use bytes::Bytes;
+use std::alloc::Global;
+use std::marker::Model;
+use xet_types::{FileRange, Items, MerkleHash, OutOfMemory};
 
 /// The form of a plan: with version 1 each run of a xorb's chunks has a link of its own; with version 2 a link may bring several runs.
 #[derive(Clone, Copy, Debug, PartialEq, Eq)]
 pub enum PlanVersion {
     V1,
     V2,
+}
+
+/// The bytes of an upload, which are shared by all that hold them. They are kept behind a pointer, since most acts have none.
+#[derive(Debug, Drop)]
+pub struct Content {
+    bytes: Box<Bytes>,
+}
+
+impl Model for Content {
+    ghost use Rattle.std.specs.Prelude.{List, ℕ, box_value};
+
+    ghost Value = { List ℕ };
+
+    ghost view = { λ c. box_value c.bytes };
+}
+
+impl Content {
+    /// These bytes, without copying them.
+    pub fn new(alloc: Global, bytes: Bytes) -> Result<Content, OutOfMemory>
+        ensures { IfOk result (λ content. content ≡ bytes) }
+    {
+        match Box::new(alloc, bytes) {
+            Ok(bytes) => Ok(Content { bytes }),
+            Err(_) => Err(OutOfMemory),
+        }
+    }
+
+    /// The bytes.
+    pub fn as_bytes(&self) -> &Bytes
+        ensures { result.now ≡ self.now }
+    {
+        &self.bytes
+    }
 }
 
 /// What is asked.
@@ -15,12 +53,12 @@ pub enum Act {
     UploadXorb {
         hash: MerkleHash,
         /// The xorb's bytes.
-        content: Octets,
+        content: Content,
     },
     /// Accepts a shard.
     UploadShard {
         /// The shard's bytes.
-        content: Octets,
+        content: Content,
     },
     /// Opens a read of a file, or of a range of its bytes.
     Plan {

@@ -117,8 +117,8 @@ fn replies(alloc: Global) -> Result<Vec<Reply>, Fail> {
     all.push(Reply::ShardTaken(true))?;
     all.push(Reply::NoPlan)?;
     all.push(Reply::Planned {
-        read: 18446744073709551615,
         version: PlanVersion::V2,
+        read: 18446744073709551615,
         offset: 10,
         terms: Items::from_vec(terms),
         links: PlanLinks::of_plan(PlanVersion::V2, xorbs, 2, 0)?,
@@ -190,8 +190,8 @@ fn xorbs(alloc: Global) -> Result<Vec<(MerkleHash, Vec<MergedRange>)>, Fail> {
 /// A plan of these links.
 fn planned(alloc: Global, version: PlanVersion, links: PlanLinks) -> Reply {
     Reply::Planned {
-        read: 0,
         version,
+        read: 0,
         offset: 0,
         terms: Items::from_vec(Vec::new(alloc)),
         links,

@@ -10,7 +10,7 @@ ghost use Rattle.xet_demo.specs.Lines.{Adds, line_with, act_of, dedup_word, shor
 
 use super::digits::hash;
 use super::terms::terms;
-use super::word::{cut, number, octets, range, small_number};
+use super::word::{content, cut, number, range, small_number};
 use std::alloc::Global;
 use std::simd::prelude::*;
 use xet_service::{Act, PlanVersion, Step};
@@ -29,24 +29,24 @@ fn xorb(
     alloc: Global,
     at: u64,
     name: &[u8],
-    content: &[u8],
+    digits: &[u8],
     steps: &mut Vec<Step>,
 ) -> Result<bool, OutOfMemory>
-    ensures { Adds (line_with at (xorb_act name.now content.now)) steps.old.items steps.new.items result }
+    ensures { Adds (line_with at (xorb_act name.now digits.now)) steps.old.items steps.new.items result }
 {
     let Some(hash) = hash(name) else {
         return Ok(false);
     };
-    match octets(alloc, content)? {
+    match content(alloc, digits)? {
         Some(content) => add(at, Act::UploadXorb { hash, content }, steps),
         None => Ok(false),
     }
 }
 
-fn shard(alloc: Global, at: u64, content: &[u8], steps: &mut Vec<Step>) -> Result<bool, OutOfMemory>
-    ensures { Adds (line_with at (shard_act content.now)) steps.old.items steps.new.items result }
+fn shard(alloc: Global, at: u64, digits: &[u8], steps: &mut Vec<Step>) -> Result<bool, OutOfMemory>
+    ensures { Adds (line_with at (shard_act digits.now)) steps.old.items steps.new.items result }
 {
-    match octets(alloc, content)? {
+    match content(alloc, digits)? {
         Some(content) => add(at, Act::UploadShard { content }, steps),
         None => Ok(false),
     }

@@ -7,8 +7,10 @@ ghost use Rattle.xet_demo.specs.Words.{parts_of, parts_after, number_of, small_n
 
 use super::digits::decode;
 use super::places::place_of;
+use bytes::Bytes;
 use std::alloc::Global;
-use xet_types::{FileRange, Octets, OutOfMemory};
+use xet_service::Content;
+use xet_types::{FileRange, OutOfMemory};
 
 /// How many digits a number may have.
 const MOST_DIGITS: usize = 20;
@@ -62,17 +64,17 @@ pub fn small_number(word: &[u8]) -> Option<u32>
 }
 
 /// The bytes that hexadecimal digits spell; `-` for none.
-pub fn octets(alloc: Global, word: &[u8]) -> Result<Option<Octets>, OutOfMemory>
-    ensures { IfOk result (λ bytes. bytes ≡ octets_of word.now) }
+pub fn content(alloc: Global, word: &[u8]) -> Result<Option<Content>, OutOfMemory>
+    ensures { IfOk result (λ content. content ≡ octets_of word.now) }
 {
     if word == b"-".as_slice() {
-        return Ok(Some(Octets::new()));
+        return Ok(Some(Content::new(alloc, Bytes::new())?));
     }
     if word.is_empty() {
         return Ok(None);
     }
     match decode(alloc, word)? {
-        Some(bytes) => Ok(Some(Octets::from_vec(bytes)?)),
+        Some(bytes) => Ok(Some(Content::new(alloc, Bytes::from_vec(bytes)?)?)),
         None => Ok(None),
     }
 }

@@ -1,5 +1,5 @@
 //! The links of a reader, and what their bodies bring.
-ghost use Rattle.std.specs.Prelude.{◌≡◌, ◌-◌, ◌↔◌, [], ◌∷◌, ◌++◌, ◌<◌, map, length, sum, IfOk, IfSome, OnOk, IsTrue, slice_get, ⊤};
+ghost use Rattle.std.specs.Prelude.{◌≡◌, ◌≢◌, ◌-◌, ◌↔◌, [], ◌∷◌, ◌++◌, ◌<◌, map, length, sum, IfOk, IfSome, OnOk, IsTrue, MatchOption, slice_get, ⊤};
 ghost use Rattle.std.specs.List.{flat_map};
 ghost use Rattle.xet_types.specs.RecordMaps.{listed};
 ghost use Rattle.xet_plan.specs.Merging.{ranges_shown};
@@ -41,7 +41,7 @@ pub struct ReadLink {
 
 /// The one item of a list; none where there isn't just one.
 pub fn only<T>(items: &[T]) -> Option<&T>
-    ensures { IfSome result (λ item. items.now ≡ item.now ∷ []) }
+    ensures { MatchOption result (length items.now ≢ 1) (λ item. items.now ≡ item.now ∷ []) }
 {
     match items {
         [item] => Some(item),
