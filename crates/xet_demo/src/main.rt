@@ -20,20 +20,36 @@ const VERSION: &str = "xet_demo 0.1.0";
 const HELP: &str = "\
 Reads a script from standard input, runs its commands over an empty chunk store in memory, and prints
 what each of them answers. With `make N` the script isn't read: N files are made, a part of each is
-read, and sums are printed. A line is a moment in milliseconds, a command and its words:
+read, and sums are printed. A line is a moment in milliseconds, a command and its words; HASH and
+FILE are 64 hexadecimal digits, BYTES are hexadecimal digits, or `-` for none:
 
-  MOMENT xorb HASH BYTES    stores a xorb
-  MOMENT shard BYTES        accepts a shard
-  MOMENT plan1 FILE RANGE   opens a read of a file; RANGE is `all` or START-END
-  MOMENT fetch READ LINK    fetches a link of a read
-  MOMENT abandon READ       closes a read
-  MOMENT hide FILE          hides a file until a shard that lists it is accepted
-  MOMENT delete-shard HASH  takes a shard out
-  MOMENT delete-xorb HASH   takes a xorb out
-  MOMENT expire MS          sets the age above which links are expired
-  MOMENT lazy SIZE TERM..   stores a generated file of chunks of that size; TERM is SEED:START-END
-  MOMENT size FILE          asks how many bytes a file has
-  MOMENT data FILE RANGE    asks for a file's bytes
+  MOMENT xorb HASH BYTES          stores a xorb
+  MOMENT shard BYTES              accepts a shard
+  MOMENT plan1 FILE RANGE         opens a read of a file, with links of version 1;
+                                  RANGE is `all` or START-END
+  MOMENT plan2 FILE RANGE         the same with links of version 2
+  MOMENT fetch READ LINK          fetches a link of a read
+  MOMENT abandon READ             closes a read
+  MOMENT hide FILE                hides a file until a shard that lists it is accepted
+  MOMENT delete-shard HASH        takes a shard out
+  MOMENT delete-xorb HASH         takes a xorb out
+  MOMENT expire MS                sets the age above which links are expired
+  MOMENT max COUNT                sets how many runs a link of version 2 brings at most
+  MOMENT dedup HASH               asks for the shard that has a chunk
+  MOMENT dedup-expire MS          sets for how long such an answer is good; MS may be `never`
+  MOMENT drop-dedup HASH          drops the entries for deduplication that name a shard
+  MOMENT size FILE                asks how many bytes a file has
+  MOMENT data FILE RANGE          asks for a file's bytes
+  MOMENT batch FILE..             asks for the plans of files, taken together
+  MOMENT random SEED COUNT SIZE   stores a generated xorb of COUNT chunks of SIZE bytes
+  MOMENT lazy SIZE TERM..         stores a generated file of chunks of SIZE bytes;
+                                  TERM is SEED:START-END
+  MOMENT xorbs                    lists the xorbs
+  MOMENT shards                   lists the shards
+  MOMENT files                    lists the files with the shards that list them
+  MOMENT integrity                checks that listed xorbs are stored, and segments fit
+  MOMENT reachable                checks that each shard and xorb is of use
+  MOMENT readable                 checks that all live files can be read
 
   --help     prints this
   --version  prints the version";
