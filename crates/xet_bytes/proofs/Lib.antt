@@ -2,3 +2,4 @@ pub mod FieldLaws
 pub mod Times
 pub mod Maps
 pub mod Pairs
+pub mod LastPairs
