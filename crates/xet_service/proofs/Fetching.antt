@@ -21,7 +21,21 @@ use Rattle.xet_service.specs.Steps.{asked_bytes, TakesBody, FetchesSent, Fetches
 use Rattle.xet_store.specs.TermData.{is_expired}
 use Rattle.xet_service.specs.Requests.{TakesAt}
 use Rattle.xet_service.specs.Causes.{IsAsked}
-use Rattle.xet_service.proofs.Replying.{failure_is}
+
+-- only the outside's failure is told so
+failure_is : (e : ClientError) → refusal_of e ≡ Some IOError → e ≡ errors.IOError
+failure_is (errors.FormatError f) h = absurd cc
+failure_is errors.InvalidRange h = absurd cc
+failure_is errors.InvalidArguments h = absurd cc
+failure_is (errors.FileNotFound f) h = absurd cc
+failure_is (errors.XORBNotFound f) h = absurd cc
+failure_is errors.PresignedUrlExpirationError h = absurd cc
+failure_is errors.IOError h = refl
+failure_is (errors.Other t) h = absurd cc
+failure_is (errors.InvalidKey t) h = absurd cc
+failure_is (errors.CacheError t) h = absurd cc
+failure_is (errors.HttpStatus n) h = absurd cc
+failure_is errors.OutOfMemory h = absurd cc
 
 pub fresh_is : (at stamp n limit : ℕ) (expired : Bool) → n ≡ limit → expired ≡ is_expired at stamp n → expired ≡ false → is_expired at stamp limit ≡ false
 fresh_is at stamp n limit expired same is not = ap (λ (k : ℕ). is_expired at stamp k) (sym same) ∙ sym is ∙ not

@@ -6,7 +6,6 @@ pub mod ReaderTerms
 pub mod Doing
 pub mod Serving
 pub mod Running
-pub mod Replying
 pub mod PlanRuns
 pub mod Described
 pub mod MetSome

@@ -2,9 +2,7 @@
 use Rattle.std.specs.Prelude.{◌≡◌, ℕ, ◌==◌, ◌<◌, ◌≤◌, List, [], ◌∷◌, ◌++◌, length, map, take, ◌⊎◌, Option, Some, None, Result, Ok, Err, if◌then◌else◌}
 use Rattle.xet_types.specs.declared.error.Refusal.{Refusal}
 use Rattle.xet_types.specs.declared.error.Refusal.TheVariants.{IOError}
-use Rattle.xet_types.specs.Faults.{Rose, refusal_of}
-use Rattle.xet_types.specs.declared.error.ClientError.{ClientError}
-use Rattle.std.specs.Option.{option_map}
+use Rattle.xet_types.specs.Faults.{Rose}
 use Rattle.xet_store.specs.Plans.{file_bytes}
 use Rattle.xet_service.specs.declared.step.Act.{Act}
 use Rattle.xet_service.specs.declared.step.Act.TheVariants.{Plan}
@@ -98,16 +96,7 @@ abbrev pub Runs : {T E : Type 0} → State → ℕ → List Step → List Reply 
 Runs old faults steps before (Ok x) after new faults_after = Ran old faults steps before after new faults_after
 Runs old faults steps before (Err e) after new faults_after = RanInPart old faults steps before after new faults_after
 
--- the reply that an act's answer gives; none where memory was wanting
-abbrev pub reply_to : Result Reply ClientError → Option Reply
-reply_to (Ok reply) = Some reply
-reply_to (Err e) = option_map (λ why. Refused why) (refusal_of e)
-
-abbrev pub value_of : {T E : Type 0} → Result T E → Option T
-value_of (Ok x) = Some x
-value_of (Err e) = None
-
--- a step was done, or memory was wanting and nothing has changed
-abbrev pub StepsOrEnds : {E : Type 0} → State → ℕ → Step → Result Reply E → State → ℕ → Type 0
-StepsOrEnds old faults step (Ok reply) new faults_after = StepsTo old faults step reply new faults_after
-StepsOrEnds old faults step (Err e) new faults_after = (new ≡ old) × (faults ≤ faults_after)
+-- a step was done and its reply appended, or memory was wanting and neither the state nor the replies have changed
+abbrev pub StepAppends : {T E : Type 0} → State → ℕ → Step → List Reply → Result T E → List Reply → State → ℕ → Type 0
+StepAppends old faults step before (Ok x) after new faults_after = (reply : Reply) × (after ≡ before ++ reply ∷ []) × StepsTo old faults step reply new faults_after
+StepAppends old faults step before (Err e) after new faults_after = (after ≡ before) × (new ≡ old) × (faults ≤ faults_after)

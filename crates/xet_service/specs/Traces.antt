@@ -53,7 +53,7 @@ abbrev pub Shows : {T E : Type 0} → Sight → List Step → List Reply → Res
 Shows old steps before (Ok x) after new = Saw old steps before after new
 Shows old steps before (Err e) after new = SawInPart old steps before after new
 
--- a step was done, or memory was wanting and nothing has changed
-abbrev pub SeesOrEnds : {E : Type 0} → Sight → Step → Result Reply E → Sight → Type 0
-SeesOrEnds old step (Ok reply) new = IsSeen old step reply new
-SeesOrEnds old step (Err e) new = (new.reads ≡ old.reads) × ((new.next ≡ old.next) × (old.faults ≤ new.faults))
+-- a step was done and its reply appended, or memory was wanting and neither the open reads nor the replies have changed
+abbrev pub SightAppends : {T E : Type 0} → Sight → Step → List Reply → Result T E → List Reply → Sight → Type 0
+SightAppends old step before (Ok x) after new = (reply : Reply) × (after ≡ before ++ reply ∷ []) × IsSeen old step reply new
+SightAppends old step before (Err e) after new = (after ≡ before) × (new.reads ≡ old.reads) × (new.next ≡ old.next) × (old.faults ≤ new.faults)

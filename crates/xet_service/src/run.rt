@@ -3,8 +3,8 @@ ghost use Rattle.std.specs.Prelude.{◌≡◌, Some};
 ghost use Rattle.xet_store.specs.StoreModel.{StoreModel};
 ghost use Rattle.xet_store.specs.Told.{Leaves};
 ghost use Rattle.xet_service.specs.World.{state};
-ghost use Rattle.xet_service.specs.Runs.{StepsOrEnds, Runs, reply_to, value_of};
-ghost use Rattle.xet_service.specs.Traces.{sight, SeesOrEnds, Shows};
+ghost use Rattle.xet_service.specs.Runs.{StepAppends, Runs};
+ghost use Rattle.xet_service.specs.Traces.{sight, SightAppends, Shows};
 ghost use Rattle.xet_service.specs.Headline.{RunsKeeping};
 ghost use Rattle.xet_service.specs.Determined.{IsDetermined};
 
@@ -13,32 +13,27 @@ use crate::service::ChunkService;
 use crate::step::Step;
 use std::alloc::Global;
 use xet_store::Store;
-use xet_types::{ClientError, OutOfMemory};
+use xet_types::OutOfMemory;
 
-/// The reply of an act's answer: a refusal is a reply too.
-fn reply_to(answer: Result<Reply, ClientError>) -> Result<Reply, OutOfMemory>
-    ensures { value_of result ≡ reply_to answer }
-{
-    match answer {
-        Ok(reply) => Ok(reply),
-        Err(error) => match error.refusal() {
-            Some(why) => Ok(Reply::Refused(why)),
-            None => Err(OutOfMemory),
-        },
-    }
-}
-
-/// Does a step; a refusal is its reply. Where there is no memory, nothing changes.
+/// Does a step and appends its reply; a refusal is a reply too. Where there is no memory, nothing changes.
 fn step<K: Store>(
     alloc: Global,
     service: &mut ChunkService<K>,
     step: &Step,
-) -> Result<Reply, OutOfMemory>
-    ensures told { (m : StoreModel) → K.Client.told service.old.store ≡ Some m → Leaves (λ after. StepsOrEnds (state m service.old.reads service.old.next) (K.Client.faults service.old.store) step.now result (state after service.new.reads service.new.next) (K.Client.faults service.new.store)) (K.Client.told service.new.store) }
-    ensures seen { SeesOrEnds (sight service.old.reads service.old.next (K.Client.faults service.old.store)) step.now result (sight service.new.reads service.new.next (K.Client.faults service.new.store)) }
+    replies: &mut Vec<Reply>,
+) -> Result<(), OutOfMemory>
+    ensures told { (m : StoreModel) → K.Client.told service.old.store ≡ Some m → Leaves (λ after. StepAppends (state m service.old.reads service.old.next) (K.Client.faults service.old.store) step.now replies.old.items result replies.new.items (state after service.new.reads service.new.next) (K.Client.faults service.new.store)) (K.Client.told service.new.store) }
+    ensures seen { SightAppends (sight service.old.reads service.old.next (K.Client.faults service.old.store)) step.now replies.old.items result replies.new.items (sight service.new.reads service.new.next (K.Client.faults service.new.store)) }
 {
-    let answer = service.act(alloc, step.at, &step.act);
-    reply_to(answer)
+    replies.reserve(1)?;
+    match service.act(alloc, step.at, &step.act) {
+        Ok(reply) => replies.push(reply)?,
+        Err(error) => match error.refusal() {
+            Some(why) => replies.push(Reply::Refused(why))?,
+            None => return Err(OutOfMemory),
+        },
+    }
+    Ok(())
 }
 
 /// Does the steps one after another.
@@ -52,9 +47,7 @@ fn do_steps<K: Store>(
     ensures seen { Shows (sight service.old.reads service.old.next (K.Client.faults service.old.store)) steps.now replies.old.items result replies.new.items (sight service.new.reads service.new.next (K.Client.faults service.new.store)) }
 {
     for next in steps {
-        replies.reserve(1)?;
-        let reply = step(alloc, service, next)?;
-        replies.push(reply)?;
+        step(alloc, service, next, replies)?;
     }
     Ok(())
 }
