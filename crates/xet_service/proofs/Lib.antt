@@ -44,3 +44,4 @@ pub mod Fetched
 pub mod Readable
 pub mod Grouped
 pub mod KeptLinks
+pub mod Recents

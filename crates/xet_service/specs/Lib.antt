@@ -20,3 +20,4 @@ pub mod ReadingParts
 pub mod Readable
 pub mod PieceWalks
 pub mod PieceForms
+pub mod Recents

@@ -7,6 +7,7 @@ pub mod pieces;
 pub mod plan_links;
 mod read;
 pub mod reader;
+mod recent;
 pub mod reply;
 pub mod run;
 pub mod service;

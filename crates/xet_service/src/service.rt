@@ -24,11 +24,11 @@ use crate::pieces::Pieces;
 use crate::plan_links::PlanLinks;
 use crate::read::OpenRead;
 use crate::reader::Reader;
+use crate::recent::Recent;
 use crate::reply::{CacheNote, Reply};
 use crate::step::{Act, Content, PlanVersion};
 use bytes::Bytes;
 use std::alloc::Global;
-use xet_bytes::ByNumber;
 use xet_generated::RandomFileContents;
 use xet_plan::Plan;
 use xet_store::{FilePlans, Store};
@@ -41,7 +41,7 @@ use xet_xorb::{RandomXorb, SerializedXorbObject};
 #[derive(Drop)]
 pub struct ChunkService<K> {
     store: K,
-    reads: ByNumber<OpenRead>,
+    reads: Recent<OpenRead>,
     /// The number of the next read.
     next: u64,
 }
@@ -55,7 +55,7 @@ impl<K> ChunkService<K> {
     {
         ChunkService {
             store,
-            reads: ByNumber::new(alloc),
+            reads: Recent::new(alloc),
             next: 0,
         }
     }
@@ -305,7 +305,7 @@ fn insert_random<K: Store>(
 }
 
 /// Puts a read at a number at which one is open, and answers that one. Takes no memory.
-fn replace(reads: &mut ByNumber<OpenRead>, number: u64, read: OpenRead) -> OpenRead
+fn replace(reads: &mut Recent<OpenRead>, number: u64, read: OpenRead) -> OpenRead
     requires present { IsOpenAt reads.old number }
     ensures value { Some result ≡ get reads.old number }
     ensures put { reads.new ≡ insert reads.old number read }
@@ -378,7 +378,7 @@ impl<K> ChunkService<K> {
 /// Puts the chunks that a body brought into a link that is left of an open read. Takes no memory.
 fn put(
     alloc: Global,
-    reads: &mut ByNumber<OpenRead>,
+    reads: &mut Recent<OpenRead>,
     read: u64,
     link: usize,
     got: Items<Items<Bytes>>,
@@ -396,7 +396,7 @@ fn put(
 }
 
 /// Closes an open read, and answers what it gave.
-fn finish(reads: &mut ByNumber<OpenRead>, read: u64, bytes: Pieces, wire: u64) -> Reply
+fn finish(reads: &mut Recent<OpenRead>, read: u64, bytes: Pieces, wire: u64) -> Reply
     ensures reply { result ≡ Finished read bytes wire no_note }
     ensures closed { reads.new ≡ remove reads.old read }
 {
@@ -413,7 +413,7 @@ fn finish(reads: &mut ByNumber<OpenRead>, read: u64, bytes: Pieces, wire: u64) -
 /// changes nothing.
 fn take(
     alloc: Global,
-    reads: &mut ByNumber<OpenRead>,
+    reads: &mut Recent<OpenRead>,
     read: u64,
     link: u32,
     left: u32,
