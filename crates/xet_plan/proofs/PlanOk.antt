@@ -1,16 +1,16 @@
 -- A plan of the met segments' cuts is the file's plan.
-use Rattle.std.proofs.Common.{◌≡◌, ◌∙◌, ℕ, ◌+◌, ◌-◌, ◌<◌, ◌≤◌, min, max, List, [], ◌∷◌, ◌++◌, length, map, refl, sym, subst, arith, ◌⊎◌, inl, inr, suc, true}
+use Rattle.std.proofs.Common.{◌≡◌, ◌∙◌, ℕ, ◌+◌, ◌-◌, ◌<◌, ◌≤◌, min, max, List, [], ◌∷◌, ◌++◌, length, map, refl, sym, ap, subst, arith, ◌⊎◌, inl, inr, suc, true}
 use Rattle.std.specs.List.{AllByRecursion, flat_map}
 use Rattle.std.proofs.lemmas.Bool.{ltb-true}
 use Rattle.std.proofs.lemmas.List.Elements.{filter_passes, recursion_from_All}
 use Rattle.xet_shard.specs.declared.listing.Segment.{Segment}
-use Rattle.xet_plan.specs.Plans.{PlanModel}
+use Rattle.xet_plan.specs.Plans.{PlanModel, TermsModel, terms_shown}
 use Rattle.xet_plan.specs.declared.place.Cut.{Cut}
 use Rattle.xet_plan.specs.Places.{Interval, Placed, Known, meets, placed, met_from, met_segments}
 use Rattle.xet_plan.specs.MetChunks.{Chunk, lay, kept, Has, span, offset_in}
 use Rattle.xet_plan.specs.Cuts.{IsReadable, cut_at, first_at}
 use Rattle.xet_plan.specs.Merging.{CutsHave, CutAt}
-use Rattle.xet_plan.specs.Answers.{IsPlan, IsPlanOf, cut_term, cut_offset, packed_at}
+use Rattle.xet_plan.specs.Answers.{IsPlan, IsPlanOf, AreTerms, cut_term, cut_offset, packed_at}
 use Rattle.xet_plan.proofs.Cuts.{length-lay}
 use Rattle.xet_plan.proofs.Kept.{IsSpan, kept_span, has_lay, lay_has}
 use Rattle.xet_plan.proofs.CutRuns.{In, map_shown}
@@ -74,16 +74,27 @@ cuts_at : (known : Known) (clip : Interval) (ps : List Placed) → AllByRecursio
 cuts_at known clip [] = tt
 cuts_at known clip (p ∷ ps) = ((refl, refl), cuts_at known clip ps)
 
+pub terms_ok : (known : Known) (clip : Interval) (segments : List Segment) (cuts : List Cut) (plan : TermsModel) → AllByRecursion (IsReadable known) (met_segments clip segments) → cuts ≡ map (cut_at known clip) (met_segments clip segments)
+    → plan.terms ≡ map cut_term cuts → plan.offset_into_first_range ≡ cut_offset clip.start cuts → AreTerms known segments clip plan
+terms_ok known clip segments cuts plan r e terms offset =
+    let ps = met_segments clip segments in
+    record {
+      readable = r;
+      terms = terms ∙ ap (map cut_term) e ∙ sym (map_shown (cut_at known clip) cut_term ps);
+      offset = offset ∙ ap (cut_offset clip.start) e ∙ cuts_offset known clip clip.start ps r (all_met clip 0 segments);
+    }
+
 pub plan_ok : (known : Known) (clip : Interval) (segments : List Segment) (cuts : List Cut) (plan : PlanModel) → AllByRecursion (IsReadable known) (met_segments clip segments) → cuts ≡ map (cut_at known clip) (met_segments clip segments)
     → IsPlanOf clip.start cuts plan → IsPlan known segments clip plan
 plan_ok known clip segments cuts plan r e p =
     let ps = met_segments clip segments in
     let m : AllByRecursion (IsMet clip) ps = all_met clip 0 segments in
     let q : IsPlanOf clip.start (map (cut_at known clip) ps) plan = subst (λ cs. IsPlanOf clip.start cs plan) e p in
+    let a : AreTerms known segments clip (terms_shown plan) = terms_ok known clip segments cuts (terms_shown plan) r e p.terms p.offset in
     record {
       readable = r;
-      terms = q.terms ∙ sym (map_shown (cut_at known clip) cut_term ps);
-      offset = q.offset ∙ cuts_offset known clip clip.start ps r m;
+      terms = a.terms;
+      offset = a.offset;
       merged = record {
         rising = q.merged.rising;
         runs = q.merged.runs;

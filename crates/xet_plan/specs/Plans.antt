@@ -8,3 +8,11 @@ pub record PlanModel : Type 0 where
   pub offset_into_first_range : ℕ
   pub terms : List XorbReconstructionTerm
   pub merged : List (List ℕ × List MergedRange)
+
+-- the same without the ranges to fetch
+pub record TermsModel : Type 0 where
+  pub offset_into_first_range : ℕ
+  pub terms : List XorbReconstructionTerm
+
+abbrev pub terms_shown : PlanModel → TermsModel
+terms_shown plan = record { offset_into_first_range = plan.offset_into_first_range; terms = plan.terms }

@@ -11,5 +11,5 @@ pub mod runs;
 pub use footers::Footers;
 pub use groups::group;
 pub use place::is_agreed;
-pub use planner::{Plan, compute_reconstruction_ranges};
+pub use planner::{Plan, PlanTerms, compute_reconstruction_ranges, compute_reconstruction_terms};
 pub use runs::MergedRange;

@@ -5,7 +5,7 @@ ghost use Rattle.xet_plan.specs.Places.{Known, interval, reach};
 ghost use Rattle.xet_plan.specs.Footers.{FailsOnlyByFault};
 ghost use Rattle.xet_plan.specs.Cuts.{CutsAnswer, IsPlanRefusal};
 ghost use Rattle.xet_plan.specs.Merging.{NoneEmpty, ranges_shown};
-ghost use Rattle.xet_plan.specs.Answers.{Answers, Places, PlanAnswer, PlansLeast, PlansBytes, IsPlanOf, cut_offset, cut_term};
+ghost use Rattle.xet_plan.specs.Answers.{Answers, TermsAnswers, Places, PlanAnswer, TermsAnswer, PlansLeast, PlansBytes, TermsBytes, IsPlanOf, cut_offset, cut_term};
 
 use crate::footers::Footers;
 use crate::place::{Cut, Reach, Recent, cut_of, object_of, reach_of};
@@ -37,6 +37,23 @@ impl Model for Plan {
     ghost Value = { PlanModel };
 
     ghost view = { λ p. record { offset_into_first_range = p.offset_into_first_range; terms = p.terms.items; merged = map ranges_shown p.merged.items } };
+}
+
+/// How to put a range of a file together. Contracts compare terms by their contents.
+#[derive(Debug, Drop)]
+pub struct PlanTerms {
+    /// How many bytes of the joined terms stand before the range.
+    pub offset_into_first_range: u64,
+    /// The parts of the file, in file order.
+    pub terms: Vec<XorbReconstructionTerm>,
+}
+
+impl Model for PlanTerms {
+    ghost use Rattle.xet_plan.specs.Plans.{TermsModel};
+
+    ghost Value = { TermsModel };
+
+    ghost view = { λ p. record { offset_into_first_range = p.offset_into_first_range; terms = p.terms.items } };
 }
 
 impl Plan {
@@ -167,6 +184,29 @@ fn plan_within<F: Footers>(
     Ok(plan)
 }
 
+/// The terms and the offset of the plan of the bytes from a start up to an end, with the refusals of that plan.
+fn terms_within<F: Footers>(
+    alloc: Global,
+    segments: &[Segment],
+    start: u64,
+    end: u64,
+    footers: &mut F,
+) -> Result<PlanTerms, ClientError>
+    requires few { length segments.now < 2 ^ 32 }
+    ensures answer { (known : Known) → F.told footers.old ≡ Some known → TermsAnswer known (interval start end) segments.now result }
+    ensures refusals { IfErr result (IsPlanRefusal (interval start end) segments.now) }
+    ensures stays { F.told footers.new ≡ F.told footers.old }
+    ensures cause { FailsOnlyByFault (F.faults footers.old) (F.faults footers.new) result }
+{
+    let cuts = cuts_of(alloc, segments, start, end, footers)?;
+    let offset_into_first_range = offset_of(start, &cuts);
+    let terms = terms_of(alloc, &cuts)?;
+    Ok(PlanTerms {
+        offset_into_first_range,
+        terms,
+    })
+}
+
 /// The least set of chunk ranges that hold the asked bytes of a file, and how to put the bytes together.
 ///
 /// No range asks for the whole file; an end past the size is clipped. The empty file has a plan without terms where there is no
@@ -195,6 +235,32 @@ pub fn compute_reconstruction_ranges<F: Footers>(
         Reach::Within(start, end) => {
             let plan = plan_within(alloc, listing.segments(), start, end, footers)?;
             Ok(Some(plan))
+        }
+    }
+}
+
+/// How to put the asked bytes of a file together: the terms and the offset of the plan that [`compute_reconstruction_ranges`] answers,
+/// without what it fetches. There is no answer where it has none, and each refusal comes where it comes there.
+pub fn compute_reconstruction_terms<F: Footers>(
+    alloc: Global,
+    listing: &FileListing,
+    bytes_range: Option<FileRange>,
+    footers: &mut F,
+) -> Result<Option<PlanTerms>, ClientError>
+    ensures place { Places listing.now.segments bytes_range result }
+    ensures answer { (known : Known) → F.told footers.old ≡ Some known → TermsAnswers known listing.now.segments bytes_range result }
+    ensures bytes { (known : Known) → F.told footers.old ≡ Some known → TermsBytes known listing.now.segments bytes_range result }
+    ensures stays { F.told footers.new ≡ F.told footers.old }
+    ensures unasked { IfOk result (λ answer. IfNone answer (footers.new ≡ footers.old)) }
+    ensures unasked_at_range { result ≡ Err ClientError.InvalidRange → footers.new ≡ footers.old }
+    ensures cause { FailsOnlyByFault (F.faults footers.old) (F.faults footers.new) result }
+{
+    match reach_of(listing.file_size(), bytes_range) {
+        Reach::Past => Ok(None),
+        Reach::Reversed => Err(ClientError::InvalidRange),
+        Reach::Within(start, end) => {
+            let terms = terms_within(alloc, listing.segments(), start, end, footers)?;
+            Ok(Some(terms))
         }
     }
 }

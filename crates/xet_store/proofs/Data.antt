@@ -14,9 +14,9 @@ use Rattle.xet_shard.specs.Values.{size_of}
 use Rattle.xet_plan.specs.declared.place.Reach.TheVariants.{Past, Reversed, Within}
 use Rattle.xet_plan.specs.Places.{Interval, interval, Placed, reach, meets, met_from, met_segments, first_of, first_fault}
 use Rattle.xet_plan.specs.FileBytes.{file_bytes, assembled, laid, segments_of, first_place}
-use Rattle.xet_plan.specs.Plans.{PlanModel}
+use Rattle.xet_plan.specs.Plans.{TermsModel}
 use Rattle.xet_plan.specs.Footers.{FailsOnlyByFault}
-use Rattle.xet_plan.specs.Answers.{Answers, IfWithin, IsPlan, IsAssembled, PlansBytes}
+use Rattle.xet_plan.specs.Answers.{TermsAnswers, IfWithin, AreTerms, IsAssembled, TermsBytes}
 use Rattle.xet_store.specs.Answered.{AnsweredErr}
 use Rattle.xet_store.specs.StoreModel.{StoreModel, known_of, content_of}
 use Rattle.xet_store.specs.Questions.{data_at, data_agreed}
@@ -77,16 +77,16 @@ module _ (m : StoreModel) (segments : List Segment) (r : Range ℕ _F) (some : r
   inside = reaches_within (size_of segments) r some within
 
   -- the planned terms, joined and cut, are the bytes
-  pub data_ok : (plan : PlanModel) (bytes : List ℕ) → Answers (known_of m) segments (Some r) (Ok (Some plan)) → PlansBytes (known_of m) segments (Some r) (Ok (Some plan))
+  pub data_ok : (plan : TermsModel) (bytes : List ℕ) → TermsAnswers (known_of m) segments (Some r) (Ok (Some plan)) → TermsBytes (known_of m) segments (Some r) (Ok (Some plan))
       → bytes ≡ assembled (content_of m) plan.terms plan.offset_into_first_range (r.end - r.start) → answered bytes ≡ data_at m segments (interval r.start r.end)
   data_ok plan bytes answers joined is =
       let faultless : first_fault (known_of m) (interval r.start r.end) segments ≡ None =
-      (subst (λ w. IfWithin w (λ clip. (first_fault (known_of m) clip segments ≡ None) × IsPlan (known_of m) segments clip plan)) inside answers).0 in
+      (subst (λ w. IfWithin w (λ clip. (first_fault (known_of m) clip segments ≡ None) × AreTerms (known_of m) segments clip plan)) inside answers).0 in
       let whole : IsAssembled (known_of m) segments (Some r) (interval r.start r.end) plan = subst (λ w. IfWithin w (λ clip. IsAssembled (known_of m) segments (Some r) clip plan)) inside joined in
       ap answered (is ∙ whole.asked (content_of m) (known_describes m)) ∙ sym (ap (data_agreed m segments (interval r.start r.end)) faultless)
 
   -- there is a plan
-  pub data_there : Answers (known_of m) segments (Some r) (Ok None) → ⊥
+  pub data_there : TermsAnswers (known_of m) segments (Some r) (Ok None) → ⊥
   data_there past = let e : Within r.start r.end ≡ Past = sym inside ∙ past in let no : ⊥ = cc in no
 
   faulty : (why : Refusal) → IfWithin (reach (size_of segments) (Some r)) (λ clip. first_fault (known_of m) clip segments ≡ Some why) → refusing why ≡ data_at m segments (interval r.start r.end)
@@ -94,7 +94,7 @@ module _ (m : StoreModel) (segments : List Segment) (r : Range ℕ _F) (some : r
       sym (ap (data_agreed m segments (interval r.start r.end)) (subst (λ w. IfWithin w (λ clip. first_fault (known_of m) clip segments ≡ Some why)) inside a))
 
   -- a refusal is the first fault
-  pub data_refused : (e : ClientError) → Answers (known_of m) segments (Some r) (Err e) → FailsOnlyByFault {T = Option PlanModel} 0 0 (Err e) → AnsweredErr {T = List ℕ} (refusal_of e) (λ x. x ≡ data_at m segments (interval r.start r.end)) ⊤
+  pub data_refused : (e : ClientError) → TermsAnswers (known_of m) segments (Some r) (Err e) → FailsOnlyByFault {T = Option TermsModel} 0 0 (Err e) → AnsweredErr {T = List ℕ} (refusal_of e) (λ x. x ≡ data_at m segments (interval r.start r.end)) ⊤
   data_refused InvalidRange a c = let e : Within r.start r.end ≡ Reversed = sym inside ∙ a in let no : ⊥ = cc in absurd no
   data_refused (FormatError f) a c = faulty (refusals.FormatError f) a
   data_refused (XORBNotFound h) a c = faulty (refusals.XORBNotFound h) a

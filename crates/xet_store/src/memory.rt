@@ -52,7 +52,7 @@ use std::sync::Arc;
 use term::{join, named_xorb};
 use xet_bytes::ByHash;
 use xet_generated::{GeneratedFile, GeneratedXorb, RandomFileContents};
-use xet_plan::{Footers, Plan, compute_reconstruction_ranges};
+use xet_plan::{Footers, Plan, compute_reconstruction_ranges, compute_reconstruction_terms};
 use xet_shard::{FileListing, eligible_among_xorbs, read_shard};
 use xet_types::{
     BatchQueryReconstructionResponse, ChunkRange, ClientError, FileRange, Items, MerkleHash,
@@ -322,7 +322,7 @@ impl MemoryClient {
     {
         let range = Some(FileRange::new(start, end));
         let mut footers = StoredFooters::new(&self.xorbs);
-        match compute_reconstruction_ranges(alloc, listing, range, &mut footers)? {
+        match compute_reconstruction_terms(alloc, listing, range, &mut footers)? {
             Some(plan) => {
                 let offset = plan.offset_into_first_range;
                 Ok(assemble(alloc, &self.xorbs, &plan.terms, offset, end - start)?)

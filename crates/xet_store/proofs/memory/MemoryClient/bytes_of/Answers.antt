@@ -7,8 +7,8 @@ use Rattle.xet_types.specs.declared.range._F.{_F}
 use Rattle.xet_types.specs.declared.error.ClientError.{ClientError}
 use Rattle.xet_plan.specs.Places.{Known}
 use Rattle.xet_plan.specs.FileBytes.{assembled}
-use Rattle.xet_plan.specs.Plans.{PlanModel}
-use Rattle.xet_plan.specs.Answers.{Answers, PlansBytes}
+use Rattle.xet_plan.specs.Plans.{TermsModel}
+use Rattle.xet_plan.specs.Answers.{TermsAnswers, TermsBytes}
 use Rattle.xet_store.specs.StoreModel.{StoreModel, Chunks, known_of, content_of}
 use Rattle.xet_store.specs.Kept.{known_in}
 use Rattle.xet_store.proofs.Data.{data_ok, data_refused}
@@ -30,7 +30,7 @@ returns-in_err-plan c =
     let r = range_from c.args.start c.args.end in
     let e = c.in_err-plan.field-0.0 in
     let known = told m c.new-footers.result.xorbs.now (c.new-footers.ensures ∙ ap (λ (s : StoreModel). s.xorbs) c.self.view_is) in
-    let answers : Answers (known_of m) segments (Some r) (Err e) = subst (λ (x : Range ℕ _F). Answers (known_of m) segments (Some x) (Err e)) c.new.ensures (c.in_err-plan.ensures.answer (known_of m) known) in
+    let answers : TermsAnswers (known_of m) segments (Some r) (Err e) = subst (λ (x : Range ℕ _F). TermsAnswers (known_of m) segments (Some x) (Err e)) c.new.ensures (c.in_err-plan.ensures.answer (known_of m) known) in
     let p = err_from_is_err_and c.from_residual.result c.from_residual.ensures.1 in
     rw (p.1, p.2) (data_refused m segments r c.requires.some c.requires.within e answers c.in_err-plan.ensures.cause)
 
@@ -41,16 +41,16 @@ returns c =
     let r = range_from c.args.start c.args.end in
     let plan = c.in-Some.plan in
     let known = told m c.new-footers.result.xorbs.now (c.new-footers.ensures ∙ ap (λ (s : StoreModel). s.xorbs) c.self.view_is) in
-    let done : Option PlanModel → Result (Option PlanModel) ClientError = λ o. Ok o in
-    let answers : Answers (known_of m) segments (Some r) (Ok (Some plan)) =
-    subst (λ (o : Option PlanModel). Answers (known_of m) segments (Some r) (done o)) c.in-Some.is
-    (subst (λ (x : Range ℕ _F). Answers (known_of m) segments (Some x) (Ok c.in_ok-plan.field-0)) c.new.ensures (c.in_ok-plan.ensures.answer (known_of m) known)) in
-    let bytes : PlansBytes (known_of m) segments (Some r) (Ok (Some plan)) =
-    subst (λ (o : Option PlanModel). PlansBytes (known_of m) segments (Some r) (done o)) c.in-Some.is
-    (subst (λ (x : Range ℕ _F). PlansBytes (known_of m) segments (Some x) (Ok c.in_ok-plan.field-0)) c.new.ensures (c.in_ok-plan.ensures.bytes (known_of m) known)) in
+    let done : Option TermsModel → Result (Option TermsModel) ClientError = λ o. Ok o in
+    let answers : TermsAnswers (known_of m) segments (Some r) (Ok (Some plan)) =
+    subst (λ (o : Option TermsModel). TermsAnswers (known_of m) segments (Some r) (done o)) c.in-Some.is
+    (subst (λ (x : Range ℕ _F). TermsAnswers (known_of m) segments (Some x) (Ok c.in_ok-plan.field-0)) c.new.ensures (c.in_ok-plan.ensures.answer (known_of m) known)) in
+    let bytes : TermsBytes (known_of m) segments (Some r) (Ok (Some plan)) =
+    subst (λ (o : Option TermsModel). TermsBytes (known_of m) segments (Some r) (done o)) c.in-Some.is
+    (subst (λ (x : Range ℕ _F). TermsBytes (known_of m) segments (Some x) (Ok c.in_ok-plan.field-0)) c.new.ensures (c.in_ok-plan.ensures.bytes (known_of m) known)) in
     let joined : c.in_ok-assemble-in-Some.field-0 ≡ assembled (content_of m) plan.terms plan.offset_into_first_range (c.args.end - c.args.start) =
     c.in_ok-assemble-in-Some.ensures
     ∙ ap (λ ts. assembled (get c.self.inside.xorbs) ts c.plan.inside.offset_into_first_range (c.args.end - c.args.start)) c.deref.ensures.value
-    ∙ ap (λ (q : PlanModel). assembled (get c.self.inside.xorbs) q.terms q.offset_into_first_range (c.args.end - c.args.start)) c.plan.view_is
+    ∙ ap (λ (q : TermsModel). assembled (get c.self.inside.xorbs) q.terms q.offset_into_first_range (c.args.end - c.args.start)) c.plan.view_is
     ∙ ap (λ (s : StoreModel). assembled (content_of s) plan.terms plan.offset_into_first_range (c.args.end - c.args.start)) c.self.view_is in
     data_ok m segments r c.requires.some c.requires.within plan c.in_ok-assemble-in-Some.field-0 answers bytes joined
