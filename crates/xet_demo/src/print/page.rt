@@ -4,6 +4,7 @@ ghost use Rattle.std.specs.Fmt.{decimal};
 ghost use Rattle.hex.specs.Hex.{encode_lower};
 ghost use Rattle.xet_demo.specs.Pages.{Prints, Writes, output, blank, with_text};
 
+use super::decimals::{five_digits, four_digits, three_digits, two_digits};
 use super::digits::spell;
 use itoa::Buffer;
 use std::alloc::Global;
@@ -138,9 +139,27 @@ impl Page {
         }
     }
 
-    /// Prints the decimal digits of a number, however many they are.
+    /// Prints the decimal digits of a number of two or more. Up to five are put without a buffer.
     #[inline(never)]
     fn put_digits<K: Sink>(&mut self, sink: &mut K, number: u64)
+        requires { 10 ≤ number }
+        ensures { Prints (output (K.taken sink.old) (K.faults sink.old) self.old) (output (K.taken sink.new) (K.faults sink.new) self.new) (decimal number) }
+    {
+        if number < 100 {
+            self.put(sink, &two_digits(number as u32));
+        } else if number < 1_000 {
+            self.put(sink, &three_digits(number as u32));
+        } else if number < 10_000 {
+            self.put(sink, &four_digits(number as u32));
+        } else if number < 100_000 {
+            self.put(sink, &five_digits(number as u32));
+        } else {
+            self.put_many_digits(sink, number);
+        }
+    }
+
+    /// Prints the decimal digits of a number, however many they are.
+    fn put_many_digits<K: Sink>(&mut self, sink: &mut K, number: u64)
         ensures { Prints (output (K.taken sink.old) (K.faults sink.old) self.old) (output (K.taken sink.new) (K.faults sink.new) self.new) (decimal number) }
     {
         let mut buffer = Buffer::new();
