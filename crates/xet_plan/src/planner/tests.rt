@@ -100,16 +100,25 @@ fn make_memory(alloc: Global) -> Result<MemoryFooters, Fail> {
     Ok(memory)
 }
 
-/// The offset, the terms as `xorb:start-end/length`, and each xorb's ranges as `start-end@start-end`.
-fn shown_plan(alloc: Global, plan: &Plan) -> Result<String, Fail> {
+/// The offset, and the terms as `xorb:start-end/length`.
+fn shown_terms(
+    alloc: Global,
+    offset: u64,
+    terms: &[XorbReconstructionTerm],
+) -> Result<String, Fail> {
     let mut s = String::new(alloc);
-    let offset = plan.offset_into_first_range;
     s.push_str(format!(in alloc; "{offset}")?.as_str())?;
-    for t in &plan.terms {
+    for t in terms {
         let h = t.hash.as_bytes()[0];
         let (a, b, n) = (t.range.start, t.range.end, t.unpacked_length);
         s.push_str(format!(in alloc; " {h}:{a}-{b}/{n}")?.as_str())?;
     }
+    Ok(s)
+}
+
+/// The same, and each xorb's ranges as `start-end@start-end`.
+fn shown_plan(alloc: Global, plan: &Plan) -> Result<String, Fail> {
+    let mut s = shown_terms(alloc, plan.offset_into_first_range, &plan.terms)?;
     for g in &plan.merged {
         let h = g.0.as_bytes()[0];
         s.push_str(format!(in alloc; " | {h}")?.as_str())?;
@@ -222,6 +231,24 @@ fn plans(rt: HostRuntime) -> Result<(), Fail> {
     is_planned(&rt, alloc, &apart, None, want, 1)?;
     let nothing = [segment(3, 0, 1, 100), segment(9, 5, 2, 0)];
     is_planned(&rt, alloc, &nothing, None, "0 3:0-1/100 | 3 0-1@0-108", 1)
+}
+
+#[test]
+fn terms(rt: HostRuntime) -> Result<(), Fail> {
+    let alloc = rt.alloc();
+    let mut memory = make_memory(alloc)?;
+    let segments = Vec::from_slice(alloc, &[segment(4, 0, 2, 200), segment(5, 0, 2, 300)])?;
+    let listing = FileListing {
+        file_hash: hash(9),
+        segments,
+    };
+    let range = Some(FileRange::new(150, 250));
+    let answer = compute_reconstruction_terms(alloc, &listing, range, &mut memory);
+    let parts = answer.ok().flatten().ok_or("no terms")?;
+    let shown = shown_terms(alloc, parts.offset_into_first_range, &parts.terms)?;
+    assert_eq!(rt; shown.as_str(), "50 4:1-2/100 5:0-1/150");
+    assert_eq!(rt; memory.asked, 2);
+    Ok(())
 }
 
 #[test]
