@@ -11,7 +11,7 @@ fn digit(value: u32) -> u8
     b'0' + value as u8
 }
 
-/// The digits of a number of two.
+/// The digits of a number that has two.
 #[inline(always)]
 pub fn two_digits(number: u32) -> [u8; 2]
     requires least { 10 ≤ number }
@@ -21,7 +21,7 @@ pub fn two_digits(number: u32) -> [u8; 2]
     [digit(number / 10), digit(number % 10)]
 }
 
-/// The digits of a number of three.
+/// The digits of a number that has three.
 #[inline(always)]
 pub fn three_digits(number: u32) -> [u8; 3]
     requires least { 100 ≤ number }
@@ -32,7 +32,7 @@ pub fn three_digits(number: u32) -> [u8; 3]
     [digit(tens / 10), digit(tens % 10), digit(number % 10)]
 }
 
-/// The digits of a number of four.
+/// The digits of a number that has four.
 #[inline(always)]
 pub fn four_digits(number: u32) -> [u8; 4]
     requires least { 1000 ≤ number }
@@ -49,7 +49,7 @@ pub fn four_digits(number: u32) -> [u8; 4]
     ]
 }
 
-/// The digits of a number of five.
+/// The digits of a number that has five.
 #[inline(always)]
 pub fn five_digits(number: u32) -> [u8; 5]
     requires least { 10000 ≤ number }

@@ -135,13 +135,13 @@ impl Page {
         if number < 10 {
             self.put(sink, &[b'0' + number as u8]);
         } else {
-            self.put_digits(sink, number);
+            self.put_longer_number(sink, number);
         }
     }
 
-    /// Prints the decimal digits of a number of two or more. Up to five are put without a buffer.
+    /// Prints a number that has two digits or more. Up to five are put without a buffer.
     #[inline(never)]
-    fn put_digits<K: Sink>(&mut self, sink: &mut K, number: u64)
+    fn put_longer_number<K: Sink>(&mut self, sink: &mut K, number: u64)
         requires { 10 ≤ number }
         ensures { Prints (output (K.taken sink.old) (K.faults sink.old) self.old) (output (K.taken sink.new) (K.faults sink.new) self.new) (decimal number) }
     {
@@ -154,12 +154,13 @@ impl Page {
         } else if number < 100_000 {
             self.put(sink, &five_digits(number as u32));
         } else {
-            self.put_many_digits(sink, number);
+            self.put_digits(sink, number);
         }
     }
 
     /// Prints the decimal digits of a number, however many they are.
-    fn put_many_digits<K: Sink>(&mut self, sink: &mut K, number: u64)
+    #[inline(never)]
+    fn put_digits<K: Sink>(&mut self, sink: &mut K, number: u64)
         ensures { Prints (output (K.taken sink.old) (K.faults sink.old) self.old) (output (K.taken sink.new) (K.faults sink.new) self.new) (decimal number) }
     {
         let mut buffer = Buffer::new();
@@ -207,3 +208,6 @@ impl Page {
         self.put_hex_piece(sink, rest);
     }
 }
+
+#[cfg(test)]
+mod tests;
