@@ -1,6 +1,5 @@
 pub mod Numbers
 pub mod Cuts
-pub mod Decimals
 pub mod Steps
 pub mod Reading
 pub mod Printing

@@ -10,7 +10,6 @@ ghost use Rattle.xet_demo.specs.Pages.{Prints, output};
 ghost use Rattle.xet_demo.specs.Printed.{octets_text, truth_word, version_word, uploaded_line, shard_line, none_line, done_line, size_line, dedup_start, data_start, plan_line, term_line, terms_text, range_text, ranges_text, link_start, link_line, links_text, cache_word, note_text, fetched_start, finished_start, refusal_word, refusal_detail, refused_line, reply_text, replies_text, hashes_start, hash_line, hashes_text, files_start, entry_line, entries_text, random_line, lazy_line, batch_start, file_start, file_text, all_files_text, entry_start, xorb_entry_line, xorb_entries_text};
 ghost use Rattle.xet_demo.specs.Summaries.{report_text};
 
-pub mod decimals;
 pub mod digits;
 pub mod encoder;
 pub mod page;

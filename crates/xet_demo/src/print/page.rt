@@ -4,7 +4,6 @@ ghost use Rattle.std.specs.Fmt.{decimal};
 ghost use Rattle.hex.specs.Hex.{encode_lower};
 ghost use Rattle.xet_demo.specs.Pages.{Prints, Writes, output, blank, with_text};
 
-use super::decimals::{five_digits, four_digits, three_digits, two_digits};
 use super::digits::spell;
 use itoa::Buffer;
 use std::alloc::Global;
@@ -134,25 +133,6 @@ impl Page {
     {
         if number < 10 {
             self.put(sink, &[b'0' + number as u8]);
-        } else {
-            self.put_longer_number(sink, number);
-        }
-    }
-
-    /// Prints a number that has two digits or more. Up to five are put without a buffer.
-    #[inline(never)]
-    fn put_longer_number<K: Sink>(&mut self, sink: &mut K, number: u64)
-        requires { 10 ≤ number }
-        ensures { Prints (output (K.taken sink.old) (K.faults sink.old) self.old) (output (K.taken sink.new) (K.faults sink.new) self.new) (decimal number) }
-    {
-        if number < 100 {
-            self.put(sink, &two_digits(number as u32));
-        } else if number < 1_000 {
-            self.put(sink, &three_digits(number as u32));
-        } else if number < 10_000 {
-            self.put(sink, &four_digits(number as u32));
-        } else if number < 100_000 {
-            self.put(sink, &five_digits(number as u32));
         } else {
             self.put_digits(sink, number);
         }
